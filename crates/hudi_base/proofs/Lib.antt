@@ -1,0 +1,4 @@
+pub mod CalendarLemmas
+pub mod CivilLemmas
+pub mod DigitsLemmas
+pub mod Times

@@ -1,0 +1,6 @@
+pub mod Calendar
+pub mod Faults
+pub mod Files
+pub mod InstantTime
+pub mod Store
+pub mod Streams

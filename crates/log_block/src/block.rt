@@ -1,0 +1,57 @@
+// Blocks, and what reading one answers.
+ghost use Rattle.std.specs.Prelude.{◌≡◌};
+ghost use Rattle.log_block.specs.declared.block.BlockError.TheVariants.{Memory};
+
+use hudi_base::{Bytes, InstantTime};
+use std::alloc::AllocError;
+use thiserror::Error;
+
+/// A block of a log file. Its instant is the one that wrote it.
+#[derive(Drop)]
+pub enum Block {
+    /// Rows, in Avro. The schema is a text in UTF-8 of less than 2^32 bytes.
+    Data {
+        instant: InstantTime,
+        schema: Bytes,
+        content: Bytes,
+    },
+    /// Keys whose rows are gone.
+    Delete {
+        instant: InstantTime,
+        content: Bytes,
+    },
+    /// A command: the blocks of the target instant don't count.
+    Rollback {
+        instant: InstantTime,
+        target: InstantTime,
+    },
+}
+
+/// What stands at the front of bytes.
+#[derive(Drop)]
+pub enum BlockRead {
+    /// This block, in its one form of that many bytes. Other bytes may follow it.
+    Whole(Block, usize),
+    /// A block may begin here, and the bytes end within it.
+    Torn,
+    /// No block stands here: the first field that is wrong begins at this place, counted from the first byte.
+    Bad(usize),
+    /// A block stands here, and no memory was left to copy it.
+    Memory,
+}
+
+/// Why a block was not written.
+#[derive(Debug, Drop, Error)]
+pub enum BlockError {
+    /// No memory was left for the bytes, or the block has more of them than memory has.
+    #[error("out of memory")]
+    Memory,
+}
+
+impl From<AllocError> for BlockError {
+    ghost from_gives = { λ _ e. e ≡ Memory };
+
+    fn from(_e: AllocError) -> BlockError {
+        BlockError::Memory
+    }
+}

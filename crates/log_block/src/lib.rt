@@ -1,0 +1,26 @@
+//! The blocks of a log file of a merge-on-read table: a profile of the log format of Apache Hudi, in which each
+//! block has one form.
+//!
+//! Its contract: what is written is that form, what is read whole is that form, and of any other bytes it is said
+//! whether the block is cut off or at which place it is bad. It stands on `hudi_base` for bytes and times and on
+//! `byteorder` for numbers.
+#![tactic(auto)]
+
+mod block;
+mod ends;
+mod fault;
+pub mod fields;
+mod header;
+mod laws;
+mod parts;
+mod reading;
+mod writing;
+
+pub use block::{Block, BlockError, BlockRead};
+pub use fault::Fault;
+pub use laws::{cut_is_torn, later_bytes, one_form, when_torn, written_is_read};
+pub use reading::read_block;
+pub use writing::write_block;
+
+#[cfg(test)]
+mod tests;

@@ -1,0 +1,4 @@
+pub mod Fold
+pub mod Kept
+pub mod Laws
+pub mod Payload

@@ -1,0 +1,129 @@
+// The files of a store and the operations that made them.
+ghost use Rattle.std.specs.Prelude.{◌≡◌, ◌∷◌, ◌++◌, [], ◌<◌, vec_len, vec_capacity, is_some, IfOk, OnOk, OnErr, MatchOption, None, Some};
+ghost use Rattle.std.specs.FinMap.{get, len};
+ghost use Rattle.hudi_base.specs.Files.{sizes};
+ghost use Rattle.store_mem.specs.Files.{files_made_by};
+
+use crate::files::{Files, change, sizes_of};
+use hudi_base::{Bytes, FileSizes, Name, Operation};
+use std::alloc::{AllocError, Global};
+use std::collections::BTreeMap;
+use std::marker::Model;
+
+/// The files that operations made of none, and these operations. Contracts see the operations.
+#[derive(Drop)]
+pub struct History {
+    files: Files,
+    operations: Vec<Operation>,
+}
+
+impl Model for History {
+    ghost use Rattle.std.specs.Prelude.{◌≡◌, List};
+    ghost use Rattle.hudi_base.specs.declared.operation.Operation.{Operation};
+    ghost use Rattle.store_mem.specs.Files.{files_in, files_made_by};
+
+    ghost Value = { List Operation };
+
+    ghost view = { λ history. history.operations.items };
+
+    ghost invariant = { λ history. files_in history.files.entries ≡ files_made_by history.operations.items };
+}
+
+impl History {
+    /// No files, and no operations.
+    pub fn new(alloc: Global) -> History
+        ensures { result ≡ [] }
+    {
+        History {
+            files: BTreeMap::new(alloc),
+            operations: Vec::new(alloc),
+        }
+    }
+
+    /// Makes a file with these bytes.
+    pub fn create(&mut self, alloc: Global, name: &Name, bytes: &[u8]) -> Result<(), AllocError>
+        ensures ok { OnOk result (self.new ≡ self.old ++ Operation.Create name.now bytes.now ∷ []) }
+        ensures err { OnErr result (self.new ≡ self.old) }
+    {
+        let operation = Operation::Create(name.copy(alloc)?, Bytes::from_slice(alloc, bytes)?);
+        self.add(alloc, operation)
+    }
+
+    /// Adds bytes at the end of a file, and makes it where it is absent.
+    pub fn append(&mut self, alloc: Global, name: &Name, bytes: &[u8]) -> Result<(), AllocError>
+        ensures ok { OnOk result (self.new ≡ self.old ++ Operation.Append name.now bytes.now ∷ []) }
+        ensures err { OnErr result (self.new ≡ self.old) }
+    {
+        let operation = Operation::Append(name.copy(alloc)?, Bytes::from_slice(alloc, bytes)?);
+        self.add(alloc, operation)
+    }
+
+    /// Removes a file.
+    pub fn remove(&mut self, alloc: Global, name: &Name) -> Result<(), AllocError>
+        ensures ok { OnOk result (self.new ≡ self.old ++ Operation.Remove name.now ∷ []) }
+        ensures err { OnErr result (self.new ≡ self.old) }
+    {
+        let operation = Operation::Remove(name.copy(alloc)?);
+        self.add(alloc, operation)
+    }
+
+    // Does one more operation.
+    fn add(&mut self, alloc: Global, operation: Operation) -> Result<(), AllocError>
+        ensures ok { OnOk result (self.new ≡ self.old ++ operation ∷ []) }
+        ensures err { OnErr result (self.new ≡ self.old) }
+    {
+        self.operations.reserve(1)?;
+        change(alloc, &mut self.files, &operation)?;
+        push_in_room(&mut self.operations, operation);
+        Ok(())
+    }
+
+    /// The bytes of a file.
+    pub fn file(&self, name: &Name) -> Option<&[u8]>
+        ensures { MatchOption result (get (files_made_by self.now) name.now ≡ None) (λ bytes. get (files_made_by self.now) name.now ≡ Some bytes.now) }
+    {
+        match self.files.get(name) {
+            Some(content) => Some(content.as_slice()),
+            None => None,
+        }
+    }
+
+    /// Whether there is a file of this name.
+    pub fn has(&self, name: &Name) -> bool
+        ensures { result ≡ is_some (get (files_made_by self.now) name.now) }
+    {
+        self.file(name).is_some()
+    }
+
+    /// How many files there are.
+    pub fn file_count(&self) -> usize
+        ensures { result ≡ len (files_made_by self.now) }
+    {
+        self.files.len()
+    }
+
+    /// The files and their sizes, in the order of their names.
+    pub fn sizes(&self, alloc: Global) -> Result<FileSizes, AllocError>
+        ensures { IfOk result (λ listing. listing ≡ sizes (files_made_by self.now)) }
+    {
+        sizes_of(alloc, &self.files)
+    }
+
+    /// The operations, in order.
+    pub fn operations(&self) -> &[Operation]
+        ensures { result.now ≡ self.now }
+    {
+        &self.operations
+    }
+}
+
+// Adds an operation where there is room for it.
+fn push_in_room(operations: &mut Vec<Operation>, operation: Operation)
+    requires { vec_len operations.old < vec_capacity operations.old }
+    ensures { operations.new.items ≡ operations.old.items ++ operation ∷ [] }
+{
+    match operations.push(operation) {
+        Ok(()) => {}
+        Err(_) => unreachable!(),
+    }
+}
