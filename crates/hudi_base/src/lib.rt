@@ -29,3 +29,6 @@ pub use sequence::Sequence;
 pub use store::{Added, Fetched, FileSize, FileSizes, Gone, Listed, Made, Store};
 pub use streams::{Got, Sent, Sink, Source};
 pub use time_laws::times_and_texts_agree;
+
+#[cfg(test)]
+mod tests;

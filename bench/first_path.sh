@@ -1,0 +1,104 @@
+#!/bin/sh
+# Times the program beside sqlite3: upserts read from JSON lines, folded by key and rank, and printed in key order.
+#
+# Run: bench/first_path.sh
+# It wants python3 and sqlite3, and skips where one is missing. It ends with status 1 where the rows that the two
+# print differ. Whether the times meet their aims stands in its last two lines.
+set -eu
+top=$(cd "$(dirname "$0")/.." && pwd)
+program=$top/crates/hudi_cli/out/hudi_cli
+bench=$top/bench
+rows_a_line=10000
+most_ratio=0.5  # of the program's time to the peer's
+most_growth=12  # of the program's time for ten times the rows
+
+for tool in python3 sqlite3; do
+    if ! command -v "$tool" >/dev/null; then
+        echo "skipped: no $tool"
+        exit 0
+    fi
+done
+if [ ! -x "$program" ] && ! command -v rt >/dev/null; then
+    echo "skipped: no built program and no rt"
+    exit 0
+fi
+
+work=$(mktemp -d)
+trap 'rm -rf "$work"' EXIT
+trap 'exit 1' HUP INT TERM
+
+# Without words the script `hudi` builds the program and says how it is used. What is timed is the program itself,
+# without the look at its sources.
+"$top/hudi" >"$work/usage" || [ $? -eq 2 ]
+
+# The peer's script. What makes it fair: sqlite parses the same JSON lines as the program, each in a file of its own,
+# so that its shell needn't read them as SQL. A line is a transaction, as a line is one append that is synced. The rows
+# lie in the key's own tree, and the cache holds the table, which is faster here than the settings that sqlite begins
+# with. A text is compared by its bytes, so `order by key` is the order of the keys as blobs.
+peer_script() {
+    echo "pragma cache_size = -262144;"
+    echo "create table rows(key text primary key, rank integer not null, body text not null) without rowid;"
+    for line in "$1"/line.*; do
+        cat <<SQL
+begin;
+insert into rows
+    select value ->> 'key', value ->> 'rank', value ->> 'body'
+    from json_each(cast(readfile('$line') as text), '\$.rows') where true
+    on conflict(key) do update set rank = excluded.rank, body = excluded.body where excluded.rank >= rank;
+commit;
+SQL
+    done
+    echo "select json_object('body', body, 'key', key, 'rank', rank) from rows order by key;"
+}
+
+# The better of two runs, each a time and a memory.
+best() {
+    printf '%s\n' "$1" "$2" | sort -n | head -n 1
+}
+
+# Runs both on a load of so many lines, in turn, three times. It leaves their best runs in `ours` and `peers`.
+run_both() {
+    load=$work/$1
+    mkdir "$load"
+    python3 "$bench/upserts.py" "$1" "$rows_a_line" >"$load/script"
+    head -n "$1" "$load/script" | (cd "$load" && split -l 1 -a 3 - line.)
+    peer_script "$load" >"$load/peer"
+    ours='999999 0'
+    peers='999999 0'
+    for _ in 1 2 3; do
+        rm -rf "$load/table" "$load/db"
+        run=$(python3 "$bench/measure.py" "$load/script" "$load/ours" "$program" "$load/table" run 1)
+        ours=$(best "$ours" "$run")
+        run=$(python3 "$bench/measure.py" "$load/peer" "$load/peers" sqlite3 -bail "$load/db")
+        peers=$(best "$peers" "$run")
+    done
+    same=$(python3 "$bench/same_rows.py" "$load/ours" "$load/peers")
+    printf '%s rows: %s\n' "$(($1 * rows_a_line))" "$same"
+    tell program "$ours"
+    tell sqlite3 "$peers"
+    printf '  program / sqlite3: %s\n' "$(ratio "${ours% *}" "${peers% *}")"
+}
+
+tell() {
+    printf '  %s: %s s, at most %s KB\n' "$1" "${2% *}" "${2#* }"
+}
+
+ratio() {
+    awk -v a="$1" -v b="$2" 'BEGIN { printf "%.2f", a / b }'
+}
+
+# Whether a figure is at most its aim.
+aim() {
+    if awk -v a="$2" -v b="$3" 'BEGIN { exit a > b }'; then
+        echo "met: $1 is $2, at most $3"
+    else
+        echo "MISSED: $1 is $2, more than $3"
+    fi
+}
+
+run_both 10
+few=${ours% *}
+run_both 100
+many=${ours% *}
+aim "program / sqlite3 at 1,000,000 rows" "$(ratio "$many" "${peers% *}")" "$most_ratio"
+aim "program at 1,000,000 rows / at 100,000" "$(ratio "$many" "$few")" "$most_growth"

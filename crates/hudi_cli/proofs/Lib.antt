@@ -1,0 +1,15 @@
+pub mod ContentParts
+pub mod Contents
+pub mod EndParts
+pub mod ImageParts
+pub mod LineParts
+pub mod LogOfRun
+pub mod LogParts
+pub mod Logs
+pub mod Members
+pub mod RunParts
+pub mod ScriptParts
+pub mod SizeParts
+pub mod SnapshotParts
+pub mod SoloParts
+pub mod TextParts

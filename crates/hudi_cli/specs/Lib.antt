@@ -1,0 +1,10 @@
+pub mod Content
+pub mod ContentReading
+pub mod Ends
+pub mod LogReading
+pub mod Output
+pub mod Run
+pub mod Script
+pub mod Steps
+pub mod Verdict
+pub mod Words

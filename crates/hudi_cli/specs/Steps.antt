@@ -1,0 +1,135 @@
+-- What the parts of a run answer. Only private clauses cite it.
+use Rattle.std.specs.Prelude.{◌≡◌, ◌≢◌, ◌⊎◌, ℕ, ℤ, Option, IfSome, Bool, true, false, List, [], ◌∷◌, map, flat_map, None, Result, Ok, Err}
+use Rattle.std.specs.FinMap.{empty}
+use Rattle.payload_merge.specs.Fold.{RowTable, after_all, rows_of, writes_of}
+use Rattle.payload_merge.specs.declared.merge_error.MergeError.{MergeError}
+use Rattle.hudi_cli.specs.Output.{IsPrintable, output_text}
+use Rattle.hudi_cli.specs.Verdict.{Ends}
+use Rattle.std.specs.List.{AllByRecursion}
+use Rattle.hudi_base.specs.Faults.{Rose}
+use Rattle.hudi_base.specs.Files.{Told}
+use Rattle.hudi_base.specs.Store.{Fails, Has, Lacks}
+use Rattle.hudi_cli.specs.Content.{IsCommit, log_bytes, log_name}
+use Rattle.hudi_cli.specs.Run.{IsDrawn, batch_of, latest_from, DrawsNext, append_of, commits_of, after_commits, HaveAllRun, IsStopped, IsWanting}
+use Rattle.hudi_cli.specs.declared.commit.Commit.{Commit}
+use Rattle.hudi_cli.specs.declared.commit.Outcome.{Outcome}
+use Rattle.hudi_cli.specs.declared.commit.Outcome.TheVariants.{Committed, TimeOver}
+use Rattle.hudi_cli.specs.declared.script.InputRow.{InputRow}
+use Rattle.hudi_cli.specs.declared.script.UpsertLine.{UpsertLine}
+use Rattle.hudi_cli.specs.declared.script.Script.{Script}
+use Rattle.hudi_cli.specs.declared.verdict.Verdict.{Verdict}
+use Rattle.hudi_cli.specs.declared.verdict.Verdict.TheVariants.{BadWords, TooLong, BadLine, StoreFailed, TableExists, BadTable, OutOfMemory, Done}
+use Rattle.hudi_cli.specs.declared.upserts.Step.{Step}
+use Rattle.hudi_cli.specs.declared.upserts.Step.TheVariants as step
+use Rattle.hudi_cli.specs.declared.upserts.Upserted.{Upserted}
+use Rattle.hudi_cli.specs.declared.upserts.Upserted.TheVariants as upserted
+use Rattle.hudi_cli.specs.declared.snapshot.Shown.{Shown}
+use Rattle.hudi_cli.specs.declared.snapshot.Shown.TheVariants as shows
+use Rattle.hudi_cli.specs.declared.snapshot.Snapshot.{Snapshot}
+use Rattle.hudi_cli.specs.declared.snapshot.Found.{Found}
+use Rattle.hudi_cli.specs.declared.snapshot.Found.TheVariants as found
+
+-- the commit of an upsert of these rows, if it drew a time
+abbrev pub commit_of : List InputRow → Outcome → List Commit
+commit_of rows (Committed time) = record { instant = time; rows = rows } ∷ []
+commit_of rows TimeOver = []
+
+-- the last time drawn, after one more outcome
+abbrev pub last_after : ℕ → Outcome → ℕ
+last_after last (Committed time) = time
+last_after last TimeOver = last
+
+-- one upsert behind the last time drawn, from what the store told before and its count of faults
+abbrev pub Steps : Step → List InputRow → ℕ → ℤ → Type 0 → Told → Told → ℕ → ℕ → Type 0
+Steps (step.Ran outcome) rows last most honest before now faults then =
+    DrawsNext most last outcome × AllByRecursion IsCommit (commit_of rows outcome) × (now ≡ after_commits before (commit_of rows outcome))
+Steps step.Failed rows last most honest before now faults then =
+    ((time : ℕ) × IsDrawn most last time × Fails honest (append_of (record { instant = time; rows = rows })) before now) × Rose faults then
+Steps step.Memory rows last most honest before now faults then = now ≡ before
+
+-- all upserts
+abbrev pub UpsertsAll : Upserted → List UpsertLine → List Outcome → ℤ → Type 0 → Told → Told → ℕ → ℕ → Type 0
+UpsertsAll upserted.All upserts outcomes most honest before now faults then = HaveAllRun upserts outcomes most before now × AllByRecursion IsCommit (commits_of upserts outcomes)
+UpsertsAll upserted.Failed upserts outcomes most honest before now faults then = IsStopped upserts most honest before now × Rose faults then
+UpsertsAll upserted.Memory upserts outcomes most honest before now faults then = IsWanting upserts most before now
+
+-- bytes that are no log of commits
+abbrev pub IsNoLog : List ℕ → Type 0
+IsNoLog bytes = (commits : List Commit) → AllByRecursion IsCommit commits → bytes ≢ log_bytes commits
+
+-- where the files are told, there is no log file, or it is no log of commits
+abbrev pub HasNoLog : Told → Type 0
+HasNoLog told = Lacks told log_name ⊎ Has told log_name IsNoLog
+
+-- the log that was read back
+abbrev pub ReadsBack : Found → Told → ℕ → ℕ → Type 0
+ReadsBack (found.Commits commits) told faults then = AllByRecursion IsCommit commits × Has told log_name (λ bytes. bytes ≡ log_bytes commits)
+ReadsBack found.Bad told faults then = HasNoLog told
+ReadsBack found.Failed told faults then = Rose faults then
+ReadsBack found.Memory told faults then = Unit {0}
+
+-- ---- the snapshot
+
+-- an upsert drew a time
+abbrev pub any_committed : List Outcome → Bool
+any_committed [] = false
+any_committed (Committed time ∷ outcomes) = true
+any_committed (TimeOver ∷ outcomes) = any_committed outcomes
+
+-- the table that commits make, in the order in which they stand
+abbrev pub table_of : List Commit → RowTable
+table_of commits = after_all empty (flat_map writes_of (map batch_of commits))
+
+-- what folding commits came to
+pub record IsFolded (commits : List Commit) (snapshot : Snapshot) : Type 0 where
+  pub time : snapshot.time ≡ latest_from None commits
+  pub rows : snapshot.rows ≡ rows_of (table_of commits)
+  pub printable : AllByRecursion IsPrintable snapshot.rows
+
+abbrev pub ShowsFolded : Shown → Result Snapshot MergeError → Type 0
+ShowsFolded shown (Ok snapshot) = shown ≡ shows.Snapshot snapshot
+ShowsFolded shown (Err error) = shown ≡ shows.Memory
+
+-- the commits that a snapshot is of: those that were read back, if an upsert drew a time, and none otherwise
+abbrev pub IsOf : Bool → Told → List Commit → Type 0
+IsOf true told commits = AllByRecursion IsCommit commits × Has told log_name (λ bytes. bytes ≡ log_bytes commits)
+IsOf false told commits = commits ≡ []
+
+abbrev pub Shows : Shown → List Outcome → Told → ℕ → ℕ → Type 0
+Shows (shows.Snapshot snapshot) outcomes told faults then = (commits : List Commit) × IsOf (any_committed outcomes) told commits × IsFolded commits snapshot
+Shows shows.Bad outcomes told faults then = (any_committed outcomes ≡ true) × HasNoLog told
+Shows shows.Failed outcomes told faults then = Rose faults then
+Shows shows.Memory outcomes told faults then = Unit {0}
+
+-- ---- the end
+
+-- what is printed after upserts that all ran, from what the store tells then
+abbrev pub Prints : Verdict → Script → List Outcome → Told → ℕ → ℕ → Type 0
+Prints (Done text) script outcomes told faults then =
+    (commits : List Commit) × IsOf (any_committed outcomes) told commits × (text ≡ output_text script outcomes (latest_from None commits) (rows_of (table_of commits)))
+Prints BadTable script outcomes told faults then = (any_committed outcomes ≡ true) × HasNoLog told
+Prints StoreFailed script outcomes told faults then = Rose faults then
+Prints OutOfMemory script outcomes told faults then = Unit {0}
+Prints _ script outcomes told faults then = ⊥
+
+-- a text that is printed, if there is memory for it
+abbrev pub PrintsText : Verdict → List ℕ → Type 0
+PrintsText verdict text = (verdict ≡ Done text) ⊎ (verdict ≡ OutOfMemory)
+
+-- no file is told
+abbrev pub IsFresh : Told → Type 0
+IsFresh told = IfSome told.files (λ files. files ≡ empty)
+
+-- an end whose text takes memory
+abbrev pub TakesMemory : Verdict → Type 0
+TakesMemory BadWords = Unit {0}
+TakesMemory TooLong = Unit {0}
+TakesMemory (BadLine number) = Unit {0}
+TakesMemory BadTable = Unit {0}
+TakesMemory TableExists = Unit {0}
+TakesMemory _ = ⊥
+
+-- an end told: this one, or want of memory for its text
+abbrev pub Tells : Verdict → ℕ → Option (List ℕ) → Option (List ℕ) → ℕ → ℕ → Type 0
+Tells verdict status before after faults now =
+    Ends verdict status before after faults now ⊎ (TakesMemory verdict × Ends OutOfMemory status before after faults now)

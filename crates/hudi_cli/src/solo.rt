@@ -1,0 +1,175 @@
+// A script that is run in one lane.
+ghost use Rattle.std.specs.Prelude.{◌≡◌, ◌⊎◌, ◌≤◌, ◌≤ℤ◌, [], All};
+ghost use Rattle.hudi_cli.specs.Content.{log_name};
+ghost use Rattle.hudi_cli.specs.Output.{IsPrintable, output_text};
+ghost use Rattle.hudi_cli.specs.Run.{AreSizedUpserts, Leaves};
+ghost use Rattle.hudi_cli.specs.Steps.{IsFresh, Prints, PrintsText};
+ghost use Rattle.hudi_cli.specs.Verdict.{Ends, IsKept, IsSmooth, Means, Ran, moment};
+ghost use Rattle.hudi_cli.specs.declared.verdict.Verdict.{Verdict};
+
+use crate::commit::Outcome;
+use crate::input::{Input, read_all};
+use crate::script::{Script, ScriptError, read_script};
+use crate::snapshot::{Shown, Snapshot, make_snapshot};
+use crate::text::output_text;
+use crate::upserts::{Upserted, upsert_all};
+use crate::verdict::{Verdict, tell};
+use crate::words::is_run_solo;
+use hudi_base::{Clock, Listed, Name, Sequence, Sink, Source, Store};
+use std::alloc::Global;
+
+// The one log file: file group `r1` of partition `x`, whose base instant is the first.
+const LOG_NAME: &str = "x/.r1.log.1_0-0-0";
+
+/// Runs the program: reads a script, runs it in one lane over the store, and prints a line for each job. It gives the
+/// exit status, and the store and the clock as they are then.
+pub fn hudi_run_solo<S: Store, C: Clock, R: Source, W: Sink>(
+    alloc: Global,
+    words: &[String],
+    store: S,
+    clock: C,
+    input: &mut R,
+    output: &mut W,
+) -> (u8, S, C)
+    ensures run { (verdict : Verdict)
+        × Means verdict words.now (S.is_honest store)
+        (moment (S.told store) (S.fault_count store) (R.left input.old) (R.fault_count input.old) (C.most clock))
+        (moment (S.told result.1) (S.fault_count result.1) (R.left input.new) (R.fault_count input.new) (C.most result.2))
+        × Ends verdict result.0 (W.written output.old) (W.written output.new) (W.fault_count output.old) (W.fault_count output.new) }
+    ensures ends_well { IsSmooth words.now
+        (moment (S.told store) (S.fault_count store) (R.left input.old) (R.fault_count input.old) (C.most clock))
+        (moment (S.told result.1) (S.fault_count result.1) (R.left input.new) (R.fault_count input.new) (C.most result.2))
+        (W.fault_count output.old) (W.fault_count output.new)
+        → (result.0 ≡ 0) ⊎ (result.0 ≡ 8) }
+{
+    let mut store = store;
+    let mut clock = clock;
+    let verdict = decide(alloc, words, &mut store, &mut clock, input);
+    let status = tell(alloc, verdict, output);
+    (status, store, clock)
+}
+
+// How the program ends, before anything is written.
+fn decide<S: Store, C: Clock, R: Source>(
+    alloc: Global,
+    words: &[String],
+    store: &mut S,
+    clock: &mut C,
+    input: &mut R,
+) -> Verdict
+    ensures means { Means result words.now (S.is_honest store.old)
+        (moment (S.told store.old) (S.fault_count store.old) (R.left input.old) (R.fault_count input.old) (C.most clock.old))
+        (moment (S.told store.new) (S.fault_count store.new) (R.left input.new) (R.fault_count input.new) (C.most clock.new)) }
+{
+    if !is_run_solo(words) {
+        return Verdict::BadWords;
+    }
+    match read_all(alloc, input) {
+        Input::Whole(bytes) => match read_script(alloc, bytes.as_slice()) {
+            Ok(script) => run_script(alloc, &script, store, clock),
+            Err(ScriptError::BadLine(number)) => Verdict::BadLine(number),
+            Err(ScriptError::Memory) => Verdict::OutOfMemory,
+        },
+        Input::TooLong => Verdict::TooLong,
+        Input::Failed => Verdict::InputFailed,
+        Input::Memory => Verdict::OutOfMemory,
+    }
+}
+
+// Runs a script, if the store has no file.
+fn run_script<S: Store, C: Clock>(
+    alloc: Global,
+    script: &Script,
+    store: &mut S,
+    clock: &mut C,
+) -> Verdict
+    requires { AreSizedUpserts script.now.upserts }
+    ensures ran { Ran result script.now (C.most clock.new) (S.is_honest store.old) (S.told store.old) (S.told store.new)
+        (S.fault_count store.old) (S.fault_count store.new) }
+    ensures leaves { Leaves (S.is_honest store.old) script.now.upserts (C.most clock.new) (S.told store.old) (S.told store.new) }
+    ensures kept { IsKept (S.told store.old) (S.told store.new) }
+{
+    match store.list(alloc) {
+        Listed::Files(files) => {
+            if files.is_empty() {
+                run_fresh(alloc, script, store, clock)
+            } else {
+                Verdict::TableExists
+            }
+        }
+        Listed::Failed => Verdict::StoreFailed,
+        Listed::Memory => Verdict::OutOfMemory,
+    }
+}
+
+// Runs a script over a store that has no file.
+fn run_fresh<S: Store, C: Clock>(
+    alloc: Global,
+    script: &Script,
+    store: &mut S,
+    clock: &mut C,
+) -> Verdict
+    requires sized { AreSizedUpserts script.now.upserts }
+    requires fresh { IsFresh (S.told store.old) }
+    ensures ran { Ran result script.now (C.most clock.new) (S.is_honest store.old) (S.told store.old) (S.told store.new)
+        (S.fault_count store.old) (S.fault_count store.new) }
+    ensures leaves { Leaves (S.is_honest store.old) script.now.upserts (C.most clock.new) (S.told store.old) (S.told store.new) }
+{
+    let Ok(name) = Name::from_text(alloc, LOG_NAME) else {
+        return Verdict::OutOfMemory;
+    };
+    let mut outcomes = Sequence::new(alloc);
+    match upsert_all(
+        alloc,
+        script.upserts.as_slice(),
+        &name,
+        store,
+        clock,
+        &mut outcomes,
+    ) {
+        Upserted::All => print(alloc, script, outcomes.as_slice(), &name, store),
+        Upserted::Failed => Verdict::StoreFailed,
+        Upserted::Memory => Verdict::OutOfMemory,
+    }
+}
+
+// Makes the snapshot after upserts that all ran, and prints it behind them.
+fn print<S: Store>(
+    alloc: Global,
+    script: &Script,
+    outcomes: &[Outcome],
+    name: &Name,
+    store: &mut S,
+) -> Verdict
+    requires name { name.now ≡ log_name }
+    ensures prints { Prints result script.now outcomes.now (S.told store.old) (S.fault_count store.old) (S.fault_count store.new) }
+    ensures same { S.told store.new ≡ S.told store.old }
+    ensures count { S.fault_count store.old ≤ S.fault_count store.new }
+{
+    match make_snapshot(alloc, name, store, outcomes) {
+        Shown::Snapshot(snapshot) => print_all(alloc, script, outcomes, &snapshot),
+        Shown::Bad => Verdict::BadTable,
+        Shown::Failed => Verdict::StoreFailed,
+        Shown::Memory => Verdict::OutOfMemory,
+    }
+}
+
+// Prints outcomes and a snapshot.
+fn print_all(alloc: Global, script: &Script, outcomes: &[Outcome], snapshot: &Snapshot) -> Verdict
+    requires { All IsPrintable snapshot.now.rows }
+    ensures { PrintsText result (output_text script.now outcomes.now snapshot.now.time snapshot.now.rows) }
+{
+    match output_text(
+        alloc,
+        script,
+        outcomes,
+        snapshot.time,
+        snapshot.rows.as_slice(),
+    ) {
+        Ok(text) => Verdict::Done(text),
+        Err(_) => Verdict::OutOfMemory,
+    }
+}
+
+#[cfg(test)]
+mod tests;

@@ -1,0 +1,368 @@
+#!/bin/sh
+# Tries the built program on a real folder and real streams: what it answers, what it writes and what it leaves.
+#
+# Run: tests/outside.sh
+# It prints one line a case, and ends with status 1 if any failed. It wants python3, and skips a case that wants what
+# this machine or this user doesn't have.
+#
+# What is expected comes from the description of the program and of the log's format, never from what it printed.
+set -u
+top=$(cd "$(dirname "$0")/.." && pwd)
+program=$top/crates/hudi_cli/out/hudi_cli
+log=x/.r1.log.1_0-0-0
+most=67108864
+usage='usage: hudi DIR run LANES'
+
+if ! command -v python3 >/dev/null; then
+    echo "skipped: no python3"
+    exit 0
+fi
+if [ ! -x "$program" ] && ! command -v rt >/dev/null; then
+    echo "skipped: no built program and no rt"
+    exit 0
+fi
+"$top/hudi" >/dev/null || [ $? -eq 2 ] || exit 1 # builds it
+
+work=$(mktemp -d)
+mounted=
+child=
+finish() {
+    [ -z "$child" ] || kill "$child"
+    [ -z "$mounted" ] || umount "$mounted"
+    rm -rf "$work"
+}
+trap finish EXIT
+trap 'exit 1' HUP INT TERM
+cd "$work" || exit 1
+failed=0
+
+look() {
+    python3 "$top/tests/outside.py" "$@"
+}
+
+milliseconds() {
+    python3 -c 'import time; print(time.time_ns() // 1000000)'
+}
+
+# Runs the program on a script and a folder. It leaves the text in `out` and the status in `status`.
+run() {
+    status=0
+    "$program" "$2" run 1 <"$1" >out 2>err || status=$?
+}
+
+# Ends a case: NAME, the expected status, the expected text without its last line feed (or `-` for a text that the check
+# looks at), and a check, which is a command that says what is wrong or, where all is well, what is worth telling.
+expect() {
+    name=$1 wanted=$2 text=$3
+    shift 3
+    [ -z "$text" ] || [ "$text" = - ] || printf '%s\n' "$text" >wanted
+    [ -n "$text" ] || : >wanted
+    if [ "$status" -ne "$wanted" ]; then
+        bad "status $status, not $wanted"
+    elif [ "$text" != - ] && ! cmp -s wanted out; then
+        bad "text $(head -c 100 out)"
+    elif ! told=$("$@" 2>&1); then
+        bad "$told"
+    else
+        echo "ok      $name${told:+: $told}"
+    fi
+}
+
+bad() {
+    echo "FAILED  $name: $1"
+    failed=1
+}
+
+skip() {
+    echo "skipped $1: $2"
+}
+
+# Checks.
+nothing_at() {
+    [ ! -e "$1" ] || ! echo "$1 is there"
+}
+no_file_below() {
+    found=$(find "$1" ! -type d)
+    [ -z "$found" ] || ! echo "there is $found"
+}
+same_files() {
+    cmp "$1" "$2"
+}
+has_size() {
+    found=$(wc -c <"$1")
+    [ "$found" -eq "$2" ] || ! echo "$found bytes, not $2"
+}
+
+# --- Scripts that run
+
+cat >worked <<'END'
+{"job":"upsert","rows":[{"key":"a","rank":5,"body":"one"},{"key":"b","rank":1,"body":"two"}]}
+{"job":"upsert","rows":[{"key":"a","rank":3,"body":"no"},{"key":"b","rank":1,"body":"new"}]}
+{"job":"snapshot"}
+END
+
+ran() { # SCRIPT FOLDER NAME
+    from=$(milliseconds)
+    run "$1" "$2"
+    to=$(milliseconds)
+    expect "$3" 0 - look ran "$1" out "$2/$log" "$from" "$to"
+}
+
+ran worked worked.d "a good script"
+expect "a good script: two blocks of 129 and 128 bytes" 0 - has_size "worked.d/$log" 257
+cp "worked.d/$log" before
+run worked worked.d
+expect "the same script again in the same folder" 9 'table exists' same_files "worked.d/$log" before
+
+for seed in 1 2 3 4 5; do
+    look script "$seed" 6 60 >"random$seed"
+    ran "random$seed" "random$seed.d" "a random script, seed $seed"
+done
+look script 6 1 1000 >random6
+ran random6 random6.d "a random script of one upsert"
+look script 7 200 2 >random7
+ran random7 random7.d "a random script of 200 upserts"
+
+ran worked "a folder with  spaces" "a folder with spaces"
+ran worked "Ordner-ü-日本-😀" "a folder with a Unicode name"
+ran worked made/below/others "a folder below missing folders"
+mkdir empty.d
+ran worked empty.d "an empty folder"
+mkdir -p inner.d/y/z
+ran worked inner.d "a folder with empty folders"
+mkdir -p left.d/.hoodie/.temp
+echo left >left.d/.hoodie/.temp/new
+ran worked left.d "a folder with a temporary file, which isn't listed"
+mkdir real.d
+ln -s real.d linked.d
+ran worked linked.d "a link to a folder"
+ran worked -d.d "a folder whose name begins with a hyphen"
+
+mkdir other.d
+echo other >other.d/note
+run worked other.d
+expect "a folder with another file" 9 'table exists' nothing_at other.d/x
+
+echo '{"job":"snapshot"}' >snapshot
+run snapshot none.d
+expect "a snapshot alone" 0 '1 snapshot rows none []' nothing_at none.d
+
+# --- Words
+
+words() { # NAME WORDS..
+    name=$1
+    shift
+    status=0
+    "$program" "$@" <worked >out 2>err || status=$?
+    expect "$name" 2 "$usage" nothing_at words.d
+}
+
+words "no words"
+words "a folder alone" words.d
+words "no lanes" words.d run
+words "no lane" words.d run 0
+words "two lanes" words.d run 2
+words "a leading zero" words.d run 01
+words "a sign" words.d run +1
+words "an empty word" words.d run ''
+words "a blank" words.d run '1 '
+words "another verb" words.d load 1
+words "a capital letter" words.d Run 1
+words "a word more" words.d run 1 1
+words "an option" words.d run --help
+words "a word that isn't UTF-8" words.d run "$(printf '\377')"
+words "a folder that isn't UTF-8" "$(printf 'words.d\377')" run 1
+words "a folder that is an empty word" '' run 1
+
+# --- Standard input
+
+input() { # NAME STATUS TEXT
+    expect "$1" "$2" "$3" nothing_at input.d
+}
+
+bad_script() { # NAME LINE
+    run script input.d
+    input "$1" 3 "bad line $2 form"
+}
+
+run "$work" input.d
+input "standard input is a folder" 5 ''
+status=0
+"$program" input.d run 1 <&- >out 2>err || status=$?
+input "standard input is closed" 5 ''
+
+run /dev/null input.d
+input "standard input is empty" 3 'bad line 1 form'
+status=0
+{ sed 1q worked; sleep 1; sed 1d worked; } | "$program" pieces.d run 1 >out 2>err || status=$?
+expect "standard input comes in pieces" 0 - has_size "pieces.d/$log" 257
+
+{ sed 1q worked; printf '{"job":"upsert","rows":[{"key":"\377","rank":1,"body":""}]}\n{"job":"snapshot"}\n'; } >script
+bad_script "a byte that isn't UTF-8" 2
+{ sed 1q worked; echo; printf '{"job":"upsert","rows":[{"key":"a","rank":1,"body":"\355\240\200"}]}\n'; } >script
+bad_script "UTF-8 of half a surrogate pair" 3
+printf '\357\273\277{"job":"snapshot"}\n' >script
+bad_script "a byte order mark" 1
+printf '{"job":"snapshot"}\n\377\n' >script
+bad_script "a byte that isn't UTF-8 behind the snapshot" 2
+printf '{"job":"snapshot"}\r' >script
+run script input.d
+input "a carriage return at the end of the input is a blank" 0 '1 snapshot rows none []'
+printf '{"job":"snapshot"}\000\n' >script
+bad_script "NUL behind a line" 1
+sed 2q worked >script
+bad_script "no snapshot" 3
+
+# A script of so many bytes: line feeds before the snapshot's line.
+long_script() {
+    python3 -c 'import sys; sys.stdout.write("\n" * (int(sys.argv[1]) - 18) + "{\"job\":\"snapshot\"}")' "$1"
+}
+long_script "$most" >script
+run script input.d
+input "a script of $most bytes" 0 "$((most - 17)) snapshot rows none []"
+long_script "$((most + 1))" >script
+run script input.d
+input "a script of one byte more" 3 'bad line 0 too_long'
+status=0
+yes | "$program" input.d run 1 >out 2>err || status=$?
+input "a script without an end" 3 'bad line 0 too_long'
+rm script
+
+# --- Standard output
+
+: >out
+status=0
+"$program" closed.d run 1 <worked >&- 2>err || status=$?
+expect "standard output is closed" 6 - look cut worked out "closed.d/$log"
+if [ -c /dev/full ]; then
+    status=0
+    "$program" full.d run 1 <worked >/dev/full 2>err || status=$?
+    expect "standard output is full" 6 - look cut worked out "full.d/$log"
+    status=0
+    "$program" >/dev/full 2>err || status=$?
+    expect "standard output is full for the usage line" 6 - true
+    status=0
+    "$program" full.e run 1 </dev/null >/dev/full 2>err || status=$?
+    expect "standard output is full for a bad line" 6 - nothing_at full.e
+else
+    skip "standard output is full" "no /dev/full"
+fi
+
+# More rows than a pipe holds, so that the reader is gone before all is written. The second time the signal of a broken
+# pipe is at its default, whatever this script was started with, and the program mustn't die of it.
+look script 8 2 5000 >large
+{
+    "$program" pipe.d run 1 <large 2>err
+    echo $? >pipe.status
+} | head -c 1 >out
+status=$(cat pipe.status)
+expect "the reader of standard output ends" 6 - look cut large out "pipe.d/$log"
+{
+    python3 -c 'import os, signal, sys
+signal.signal(signal.SIGPIPE, signal.SIG_DFL)
+os.execv(sys.argv[1], sys.argv[1:])' "$program" signal.d run 1 <large 2>err
+    echo $? >pipe.status
+} | head -c 1 >out
+status=$(cat pipe.status)
+expect "the reader of standard output ends, and the signal is at its default" 6 - look cut large out "signal.d/$log"
+
+# --- The folder
+
+echo file >file
+run worked file
+expect "the folder is a file" 4 '' has_size file 5
+run worked file/below
+expect "the folder is below a file" 4 '' nothing_at file/below
+
+mkdir disk
+can_mount() { # OPTIONS
+    [ "$(id -u)" -eq 0 ] && mount -t tmpfs -o "$1" tmpfs disk 2>/dev/null && mounted=$work/disk
+}
+unmount() {
+    umount disk && mounted=
+}
+
+if can_mount ro; then
+    run worked disk
+    expect "a folder of a disk that is read-only" 4 '' no_file_below disk
+    run worked disk/new
+    expect "a new folder on a disk that is read-only" 4 '' nothing_at disk/new
+    unmount
+elif [ "$(id -u)" -ne 0 ]; then
+    mkdir -m 555 shut.d
+    run worked shut.d
+    expect "a folder that may not be written" 4 '' no_file_below shut.d
+else
+    skip "a folder that can't be written" "root may write each folder and can't mount here"
+fi
+
+if can_mount size=64k; then
+    status=0
+    "$program" outfull.d run 1 <large >disk/out 2>err || status=$?
+    expect "standard output is a file on a disk that gets full" 6 - look cut large disk/out "outfull.d/$log"
+    unmount
+else
+    skip "standard output is a file on a disk that gets full" "no right to mount"
+fi
+
+mkdir -p "taken.d/$log"
+run worked taken.d
+expect "a folder in the place of the log" 4 '' no_file_below taken.d
+
+look script 9 40 300 >many
+if can_mount size=256k; then
+    run many disk/table
+    expect "a disk that gets full" 4 '' look front many "disk/table/$log"
+    cp "disk/table/$log" before
+    run many disk/table
+    expect "a disk that got full, again" 9 'table exists' same_files "disk/table/$log" before
+    unmount
+else
+    skip "a disk that gets full" "no right to mount"
+fi
+
+# The limit of a file's size stands in for a full disk where none can be mounted. The signal that comes with it is
+# ignored, so that the write fails.
+status=0
+(
+    trap '' XFSZ
+    ulimit -f 100
+    "$program" limit.d run 1 <many >out 2>err
+) || status=$?
+expect "a file that may not grow" 4 '' look front many "limit.d/$log"
+
+# --- Want of memory: the limit leaves the program enough to start, and is below the size of the script.
+
+python3 "$top/bench/upserts.py" 10 50000 >big
+if (ulimit -v 24000) 2>/dev/null; then
+    status=0
+    (
+        ulimit -v 24000
+        "$program" memory.d run 1 <big >out 2>err
+    ) || status=$?
+    expect "want of memory" 8 '' nothing_at memory.d
+else
+    skip "want of memory" "this shell can't limit it"
+fi
+
+# --- A kill, when the log has more than so many bytes. It ends the program within an append or between two.
+
+wait_for() { # FILE SIZE
+    python3 -c 'import os, sys, time
+path, size, end = sys.argv[1], int(sys.argv[2]), time.monotonic() + 60
+while not (os.path.exists(path) and os.path.getsize(path) > size) and time.monotonic() < end:
+    time.sleep(0.0002)' "$1" "$2"
+}
+
+for size in 0 2500000 5000000 7500000; do
+    "$program" "kill$size.d" run 1 <big >out 2>err &
+    child=$!
+    wait_for "kill$size.d/$log" "$size"
+    status=0
+    kill -9 "$child"
+    wait "$child" 2>/dev/null || status=$? # a shell tells on standard error that it was killed
+    child=
+    expect "a kill when the log has more than $size bytes" 137 '' look front big "kill$size.d/$log"
+done
+
+exit "$failed"
