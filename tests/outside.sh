@@ -147,6 +147,10 @@ echo '{"job":"snapshot"}' >snapshot
 run snapshot none.d
 expect "a snapshot alone" 0 '1 snapshot rows none []' nothing_at none.d
 
+status=0
+python3 "$top/tests/random_scripts.py" "$program" 1 300 >out || status=$?
+expect "300 random scripts, many of them damaged" 0 - cat out
+
 # --- Words
 
 words() { # NAME WORDS..
