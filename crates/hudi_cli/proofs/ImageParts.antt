@@ -379,14 +379,14 @@ leaves_same upserts most honest told is_honest = by_told told.files told.operati
     }
 
 -- after every end of a script
-pub leaves_ran : (verdict : Verdict) (script : Script) (most : ℤ) (honest : Type 0) (before now : Told) (faults then : ℕ) → IsFresh before
-    → Ran verdict script most honest before now faults then → Leaves honest script.upserts most before now
-leaves_ran (Done text) script most honest before now faults then fresh ran = leaves_run script.upserts ran.outcomes most honest before now fresh ran.run.run
-leaves_ran BadTable script most honest before now faults then fresh ran = leaves_run script.upserts ran.outcomes most honest before now fresh ran.run.run
-leaves_ran StoreFailed script most honest before now faults then fresh ran = leaves_stopped script.upserts most honest before now fresh ran.0
-leaves_ran OutOfMemory script most honest before now faults then fresh ran = leaves_run script.upserts ran.outcomes most honest before now fresh ran.run
-leaves_ran TableExists script most honest before now faults then fresh ran = subst (Leaves honest script.upserts most before) (sym ran.same) (leaves_same script.upserts most honest before)
-leaves_ran BadWords script most honest before now faults then fresh ran = absurd ran
-leaves_ran InputFailed script most honest before now faults then fresh ran = absurd ran
-leaves_ran TooLong script most honest before now faults then fresh ran = absurd ran
-leaves_ran (BadLine number) script most honest before now faults then fresh ran = absurd ran
+pub leaves_ran : (verdict : Verdict) (script : Script) (most last : ℤ) (honest : Type 0) (before now : Told) (faults then : ℕ) → IsFresh before
+    → Ran verdict script most last honest before now faults then → Leaves honest script.upserts most before now
+leaves_ran (Done text) script most last honest before now faults then fresh ran = leaves_run script.upserts ran.outcomes most honest before now fresh ran.run.run
+leaves_ran BadTable script most last honest before now faults then fresh ran = leaves_run script.upserts ran.outcomes most honest before now fresh ran.run.run
+leaves_ran StoreFailed script most last honest before now faults then fresh ran = leaves_stopped script.upserts most honest before now fresh ran.0
+leaves_ran OutOfMemory script most last honest before now faults then fresh ran = leaves_run script.upserts ran.outcomes most honest before now fresh ran.run
+leaves_ran TableExists script most last honest before now faults then fresh ran = subst (Leaves honest script.upserts most before) (sym ran.same) (leaves_same script.upserts most honest before)
+leaves_ran BadWords script most last honest before now faults then fresh ran = absurd ran
+leaves_ran InputFailed script most last honest before now faults then fresh ran = absurd ran
+leaves_ran TooLong script most last honest before now faults then fresh ran = absurd ran
+leaves_ran (BadLine number) script most last honest before now faults then fresh ran = absurd ran

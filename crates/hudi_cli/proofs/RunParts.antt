@@ -6,8 +6,9 @@ use Rattle.hudi_base.specs.Faults.{Rose}
 use Rattle.hudi_base.specs.Files.{FileMap, Told, after}
 use Rattle.hudi_base.specs.InstantTime.{first_time}
 use Rattle.hudi_cli.proofs.ContentParts.{AllByRecursion-append}
-use Rattle.hudi_cli.specs.Run.{IsDrawn, Draws, DrawsNext, last_drawn, commits_of, append_of, after_commits, HasRun, IsStopped}
-use Rattle.hudi_cli.specs.Steps.{commit_of, last_after}
+use Rattle.hudi_cli.specs.Run.{IsDrawn, KeepsUp, Draws, DrawsNext, last_drawn, commits_of, append_of, after_commits, HasRun, IsStopped}
+use Rattle.hudi_cli.specs.Steps.{StepsUp, commit_of, last_after}
+use Rattle.hudi_cli.specs.declared.upserts.Step.TheVariants as step
 use Rattle.hudi_cli.specs.Content.{IsCommit}
 use Rattle.std.specs.FinMap.{get}
 use Rattle.hudi_base.specs.Store.{Fails, Has}
@@ -50,6 +51,11 @@ last_drawn-push last [] (Committed time) = refl
 last_drawn-push last [] TimeOver = refl
 last_drawn-push last (Committed time ∷ outcomes) outcome = last_drawn-push time outcomes outcome
 last_drawn-push last (TimeOver ∷ outcomes) outcome = last_drawn-push last outcomes outcome
+
+-- the clock is kept up with after one more upsert
+pub KeepsUp-push : (outcomes : List Outcome) (outcome : Outcome) (answer : ℤ) → StepsUp (step.Ran outcome) (last_drawn first_time outcomes) answer → KeepsUp answer (outcomes ++ outcome ∷ [])
+KeepsUp-push outcomes (Committed time) answer up = inr (rw (last_drawn-push first_time outcomes (Committed time)) up)
+KeepsUp-push outcomes TimeOver answer up = inr (inr (last_drawn-push first_time outcomes TimeOver ∙ up))
 
 -- ---- commits
 

@@ -8,7 +8,7 @@ use Rattle.std.proofs.lemmas.List.{length-map, nil_from_length}
 use Rattle.hudi_base.specs.Files.{FileMap, Told, sizes}
 use Rattle.hudi_base.specs.declared.store.FileSize.{FileSize}
 use Rattle.hudi_cli.specs.Content.{IsCommit}
-use Rattle.hudi_cli.specs.Run.{commits_of, latest_from, HasRun, HaveAllRun, IsLeft, IsStopped, IsWanting}
+use Rattle.hudi_cli.specs.Run.{commits_of, latest_from, HasRun, HaveAllRun, KeepsUp, IsLeft, IsStopped, IsWanting}
 use Rattle.hudi_cli.specs.Steps.{any_committed, table_of, IsFresh, Prints, TakesMemory}
 use Rattle.hudi_cli.specs.Ends.{IsTooLong}
 use Rattle.hudi_cli.specs.Script.{most_script_bytes, script_of}
@@ -39,11 +39,12 @@ pub wanting_first : (upserts : List UpsertLine) (most : ℤ) (told : Told) → I
 wanting_first upserts most told = wanting_after upserts [] most told told (HasRun-none upserts most told)
 
 -- what was printed says how it ends
-pub Ran-printed : (verdict : Verdict) (script : Script) (outcomes : List Outcome) (most : ℤ) (honest : Type 0) (before now : Told) (first faults then : ℕ)
-    → IsFresh before → HaveAllRun script.upserts outcomes most before now → AllByRecursion IsCommit (commits_of script.upserts outcomes) → first ≤ faults
-    → Prints verdict script outcomes now faults then → Ran verdict script most honest before now first then
-Ran-printed (Done text) script outcomes most honest before now first faults then fresh run are le prints = record {
+pub Ran-printed : (verdict : Verdict) (script : Script) (outcomes : List Outcome) (most last : ℤ) (honest : Type 0) (before now : Told) (first faults then : ℕ)
+    → KeepsUp last outcomes → IsFresh before → HaveAllRun script.upserts outcomes most before now → AllByRecursion IsCommit (commits_of script.upserts outcomes) → first ≤ faults
+    → Prints verdict script outcomes now faults then → Ran verdict script most last honest before now first then
+Ran-printed (Done text) script outcomes most last honest before now first faults then up fresh run are le prints = record {
   outcomes = outcomes;
+  up = up;
   run = run;
   time = latest_from None prints.0;
   table = table_of prints.0;
@@ -52,19 +53,20 @@ Ran-printed (Done text) script outcomes most honest before now first faults then
   snapshot = mapped before.files (λ files same. shown script.upserts outcomes most before now prints.0 run same)
       (found script.upserts outcomes most before now prints.0 fresh run are (any_committed outcomes) refl prints.1);
 }
-Ran-printed BadTable script outcomes most honest before now first faults then fresh run are le prints = record {
+Ran-printed BadTable script outcomes most last honest before now first faults then up fresh run are le prints = record {
   outcomes = outcomes;
+  up = up;
   run = run;
   untold = no_log script.upserts outcomes most before now fresh run are prints.0 prints.1;
 }
-Ran-printed StoreFailed script outcomes most honest before now first faults then fresh run are le prints =
+Ran-printed StoreFailed script outcomes most last honest before now first faults then up fresh run are le prints =
     (stopped_after script.upserts outcomes most honest before now run.run, Rose-earlier first faults then le prints)
-Ran-printed OutOfMemory script outcomes most honest before now first faults then fresh run are le prints = wanting_after script.upserts outcomes most before now run.run
-Ran-printed BadWords script outcomes most honest before now first faults then fresh run are le prints = absurd prints
-Ran-printed InputFailed script outcomes most honest before now first faults then fresh run are le prints = absurd prints
-Ran-printed TooLong script outcomes most honest before now first faults then fresh run are le prints = absurd prints
-Ran-printed (BadLine number) script outcomes most honest before now first faults then fresh run are le prints = absurd prints
-Ran-printed TableExists script outcomes most honest before now first faults then fresh run are le prints = absurd prints
+Ran-printed OutOfMemory script outcomes most last honest before now first faults then up fresh run are le prints = wanting_after script.upserts outcomes most before now run.run
+Ran-printed BadWords script outcomes most last honest before now first faults then up fresh run are le prints = absurd prints
+Ran-printed InputFailed script outcomes most last honest before now first faults then up fresh run are le prints = absurd prints
+Ran-printed TooLong script outcomes most last honest before now first faults then up fresh run are le prints = absurd prints
+Ran-printed (BadLine number) script outcomes most last honest before now first faults then up fresh run are le prints = absurd prints
+Ran-printed TableExists script outcomes most last honest before now first faults then up fresh run are le prints = absurd prints
 
 Stopped-earlier : (upserts : List UpsertLine) (most : ℤ) (honest then_honest : Type 0) (before now : Told) → (honest → then_honest) → IsStopped upserts most then_honest before now → IsStopped upserts most honest before now
 Stopped-earlier upserts most honest then_honest before now stays stopped = record {
@@ -88,18 +90,18 @@ Stopped-earlier upserts most honest then_honest before now stays stopped = recor
     )
 
 -- what went before it was a listing
-pub Ran-earlier : (verdict : Verdict) (script : Script) (most : ℤ) (honest then_honest : Type 0) (before now : Told) (first faults then : ℕ)
-    → (honest → then_honest) → first ≤ faults → Ran verdict script most then_honest before now faults then → Ran verdict script most honest before now first then
-Ran-earlier (Done text) script most honest then_honest before now first faults then stays le ran = ran
-Ran-earlier BadTable script most honest then_honest before now first faults then stays le ran = ran
-Ran-earlier StoreFailed script most honest then_honest before now first faults then stays le ran =
+pub Ran-earlier : (verdict : Verdict) (script : Script) (most last : ℤ) (honest then_honest : Type 0) (before now : Told) (first faults then : ℕ)
+    → (honest → then_honest) → first ≤ faults → Ran verdict script most last then_honest before now faults then → Ran verdict script most last honest before now first then
+Ran-earlier (Done text) script most last honest then_honest before now first faults then stays le ran = ran
+Ran-earlier BadTable script most last honest then_honest before now first faults then stays le ran = ran
+Ran-earlier StoreFailed script most last honest then_honest before now first faults then stays le ran =
     (Stopped-earlier script.upserts most honest then_honest before now stays ran.0, Rose-earlier first faults then le ran.1)
-Ran-earlier OutOfMemory script most honest then_honest before now first faults then stays le ran = ran
-Ran-earlier TableExists script most honest then_honest before now first faults then stays le ran = ran
-Ran-earlier BadWords script most honest then_honest before now first faults then stays le ran = absurd ran
-Ran-earlier InputFailed script most honest then_honest before now first faults then stays le ran = absurd ran
-Ran-earlier TooLong script most honest then_honest before now first faults then stays le ran = absurd ran
-Ran-earlier (BadLine number) script most honest then_honest before now first faults then stays le ran = absurd ran
+Ran-earlier OutOfMemory script most last honest then_honest before now first faults then stays le ran = ran
+Ran-earlier TableExists script most last honest then_honest before now first faults then stays le ran = ran
+Ran-earlier BadWords script most last honest then_honest before now first faults then stays le ran = absurd ran
+Ran-earlier InputFailed script most last honest then_honest before now first faults then stays le ran = absurd ran
+Ran-earlier TooLong script most last honest then_honest before now first faults then stays le ran = absurd ran
+Ran-earlier (BadLine number) script most last honest then_honest before now first faults then stays le ran = absurd ran
 
 -- ---- want of memory for a text
 

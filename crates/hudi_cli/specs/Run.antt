@@ -47,6 +47,10 @@ last_drawn last [] = last
 last_drawn last (Committed time ∷ outcomes) = last_drawn time outcomes
 last_drawn last (TimeOver ∷ outcomes) = last_drawn last outcomes
 
+-- the clock's last answer isn't past the last time drawn, unless that is the last time that there is
+abbrev pub KeepsUp : ℤ → List Outcome → Type 0
+KeepsUp last outcomes = (outcomes ≡ []) ⊎ ((last ≤ℤ pos (last_drawn first_time outcomes)) ⊎ (last_drawn first_time outcomes ≡ last_time))
+
 -- ---- commits
 
 -- the upserts that drew a time
@@ -134,8 +138,9 @@ pub record IsWanting (upserts : List UpsertLine) (most : ℤ) (before now : Told
 -- ---- a script that ends
 
 -- a script that ran to its end, with what is printed for it
-pub record IsDone (script : Script) (most : ℤ) (before now : Told) (text : List ℕ) : Type 0 where
+pub record IsDone (script : Script) (most last : ℤ) (before now : Told) (text : List ℕ) : Type 0 where
   pub outcomes : List Outcome
+  pub up : KeepsUp last outcomes
   pub run : HaveAllRun script.upserts outcomes most before now
   pub time : Option ℕ
   pub table : RowTable
@@ -145,8 +150,9 @@ pub record IsDone (script : Script) (most : ℤ) (before now : Told) (text : Lis
   pub snapshot : IfSome before.files (λ _. IsSnapshot (commits_of script.upserts outcomes) time table)
 
 -- A script whose log couldn't be read back. This can't be where the store tells its files.
-pub record IsUnread (script : Script) (most : ℤ) (before now : Told) : Type 0 where
+pub record IsUnread (script : Script) (most last : ℤ) (before now : Told) : Type 0 where
   pub outcomes : List Outcome
+  pub up : KeepsUp last outcomes
   pub run : HaveAllRun script.upserts outcomes most before now
   pub untold : before.files ≡ None
 

@@ -1,5 +1,5 @@
 -- What the parts of a run answer. Only private clauses cite it.
-use Rattle.std.specs.Prelude.{◌≡◌, ◌≢◌, ◌⊎◌, ℕ, ℤ, Option, IfSome, Bool, true, false, List, [], ◌∷◌, map, flat_map, None, Result, Ok, Err}
+use Rattle.std.specs.Prelude.{◌≡◌, ◌≢◌, ◌⊎◌, ℕ, ℤ, pos, ◌≤ℤ◌, Option, IfSome, Bool, true, false, List, [], ◌∷◌, map, flat_map, None, Result, Ok, Err}
 use Rattle.std.specs.FinMap.{empty}
 use Rattle.payload_merge.specs.Fold.{RowTable, after_all, rows_of, writes_of}
 use Rattle.payload_merge.specs.declared.merge_error.MergeError.{MergeError}
@@ -7,10 +7,11 @@ use Rattle.hudi_cli.specs.Output.{IsPrintable, output_text}
 use Rattle.hudi_cli.specs.Verdict.{Ends}
 use Rattle.std.specs.List.{AllByRecursion}
 use Rattle.hudi_base.specs.Faults.{Rose}
+use Rattle.hudi_base.specs.InstantTime.{last_time}
 use Rattle.hudi_base.specs.Files.{Told}
 use Rattle.hudi_base.specs.Store.{Fails, Has, Lacks}
 use Rattle.hudi_cli.specs.Content.{IsCommit, log_bytes, log_name}
-use Rattle.hudi_cli.specs.Run.{IsDrawn, batch_of, latest_from, DrawsNext, append_of, commits_of, after_commits, HaveAllRun, IsStopped, IsWanting}
+use Rattle.hudi_cli.specs.Run.{IsDrawn, batch_of, latest_from, DrawsNext, append_of, commits_of, after_commits, HaveAllRun, KeepsUp, IsStopped, IsWanting}
 use Rattle.hudi_cli.specs.declared.commit.Commit.{Commit}
 use Rattle.hudi_cli.specs.declared.commit.Outcome.{Outcome}
 use Rattle.hudi_cli.specs.declared.commit.Outcome.TheVariants.{Committed, TimeOver}
@@ -47,11 +48,24 @@ Steps step.Failed rows last most honest before now faults then =
     ((time : ℕ) × IsDrawn most last time × Fails honest (append_of (record { instant = time; rows = rows })) before now) × Rose faults then
 Steps step.Memory rows last most honest before now faults then = now ≡ before
 
+-- what one upsert after the clock's answer says of its time
+abbrev pub StepsUp : Step → ℕ → ℤ → Type 0
+StepsUp (step.Ran (Committed time)) last answer = (answer ≤ℤ pos time) ⊎ (time ≡ last_time)
+StepsUp (step.Ran TimeOver) last answer = last ≡ last_time
+StepsUp step.Failed last answer = Unit {0}
+StepsUp step.Memory last answer = Unit {0}
+
 -- all upserts
 abbrev pub UpsertsAll : Upserted → List UpsertLine → List Outcome → ℤ → Type 0 → Told → Told → ℕ → ℕ → Type 0
 UpsertsAll upserted.All upserts outcomes most honest before now faults then = HaveAllRun upserts outcomes most before now × AllByRecursion IsCommit (commits_of upserts outcomes)
 UpsertsAll upserted.Failed upserts outcomes most honest before now faults then = IsStopped upserts most honest before now × Rose faults then
 UpsertsAll upserted.Memory upserts outcomes most honest before now faults then = IsWanting upserts most before now
+
+-- and of all upserts
+abbrev pub AllUp : Upserted → ℤ → List Outcome → Type 0
+AllUp upserted.All answer outcomes = KeepsUp answer outcomes
+AllUp upserted.Failed answer outcomes = Unit {0}
+AllUp upserted.Memory answer outcomes = Unit {0}
 
 -- bytes that are no log of commits
 abbrev pub IsNoLog : List ℕ → Type 0

@@ -44,22 +44,25 @@ text_of OutOfMemory = []
 text_of TableExists = codes "table exists" ++ line_end
 
 -- what is seen of the outside at a moment: what the store tells and its count of faults, the bytes that the input has
--- left and its count of faults, and the greatest answer of the clock
+-- left and its count of faults, and the greatest and the last answer of the clock
 pub record Moment : Type 0 where
   pub told : Told
   pub store_faults : ℕ
   pub left : Option (List ℕ)
   pub input_faults : ℕ
   pub most : ℤ
+  pub last : ℤ
 
-abbrev pub moment : Told → ℕ → Option (List ℕ) → ℕ → ℤ → Moment
-moment told store_faults left input_faults most = record { told = told; store_faults = store_faults; left = left; input_faults = input_faults; most = most }
+abbrev pub moment : Told → ℕ → Option (List ℕ) → ℕ → ℤ → ℤ → Moment
+moment told store_faults left input_faults most last =
+    record { told = told; store_faults = store_faults; left = left; input_faults = input_faults; most = most; last = last }
 
 -- the store and the clock weren't called
 pub record IsUntouched (before now : Moment) : Type 0 where
   pub told : now.told ≡ before.told
   pub faults : now.store_faults ≡ before.store_faults
   pub most : now.most ≡ before.most
+  pub last : now.last ≡ before.last
 
 -- the words are right, the input was read to its end, and what it says as a script has P
 abbrev pub Says : List (String Global) → Moment → Moment → (Result Script ℕ → Type 0) → Type 0
@@ -70,13 +73,13 @@ abbrev pub Runs : List (String Global) → Moment → Moment → (Script → Typ
 Runs words before now P = Says words before now (λ says. (script : Script) × (says ≡ Ok script) × P script)
 
 -- how a script ends that was read, from what the store tells and its count of faults before it and then
-abbrev pub Ran : Verdict → Script → ℤ → Type 0 → Told → Told → ℕ → ℕ → Type 0
-Ran TableExists script most honest before now faults then = IsOccupied before now
-Ran StoreFailed script most honest before now faults then = IsStopped script.upserts most honest before now × Rose faults then
-Ran BadTable script most honest before now faults then = IsUnread script most before now
-Ran (Done text) script most honest before now faults then = IsDone script most before now text
-Ran OutOfMemory script most honest before now faults then = IsWanting script.upserts most before now
-Ran _ script most honest before now faults then = ⊥
+abbrev pub Ran : Verdict → Script → ℤ → ℤ → Type 0 → Told → Told → ℕ → ℕ → Type 0
+Ran TableExists script most last honest before now faults then = IsOccupied before now
+Ran StoreFailed script most last honest before now faults then = IsStopped script.upserts most honest before now × Rose faults then
+Ran BadTable script most last honest before now faults then = IsUnread script most last before now
+Ran (Done text) script most last honest before now faults then = IsDone script most last before now text
+Ran OutOfMemory script most last honest before now faults then = IsWanting script.upserts most before now
+Ran _ script most last honest before now faults then = ⊥
 
 -- a store that tells a file isn't changed
 abbrev pub IsKept : Told → Told → Type 0
@@ -85,7 +88,7 @@ IsKept before now = (now ≡ before) ⊎ IfSome before.files (λ files. files �
 -- what a script that was read came to, what a stop within it leaves, and that no table was changed
 abbrev pub CameTo : Verdict → Script → Type 0 → Moment → Moment → Type 0
 CameTo verdict script honest before now =
-    Ran verdict script now.most honest before.told now.told before.store_faults now.store_faults
+    Ran verdict script now.most now.last honest before.told now.told before.store_faults now.store_faults
     × Leaves honest script.upserts now.most before.told now.told
     × IsKept before.told now.told
 

@@ -33,12 +33,12 @@ pub fn hudi_run_solo<S: Store, C: Clock, R: Source, W: Sink>(
 ) -> (u8, S, C)
     ensures run { (verdict : Verdict)
         × Means verdict words.now (S.is_honest store)
-        (moment (S.told store) (S.fault_count store) (R.left input.old) (R.fault_count input.old) (C.most clock))
-        (moment (S.told result.1) (S.fault_count result.1) (R.left input.new) (R.fault_count input.new) (C.most result.2))
+        (moment (S.told store) (S.fault_count store) (R.left input.old) (R.fault_count input.old) (C.most clock) (C.last clock))
+        (moment (S.told result.1) (S.fault_count result.1) (R.left input.new) (R.fault_count input.new) (C.most result.2) (C.last result.2))
         × Ends verdict result.0 (W.written output.old) (W.written output.new) (W.fault_count output.old) (W.fault_count output.new) }
     ensures ends_well { IsSmooth words.now
-        (moment (S.told store) (S.fault_count store) (R.left input.old) (R.fault_count input.old) (C.most clock))
-        (moment (S.told result.1) (S.fault_count result.1) (R.left input.new) (R.fault_count input.new) (C.most result.2))
+        (moment (S.told store) (S.fault_count store) (R.left input.old) (R.fault_count input.old) (C.most clock) (C.last clock))
+        (moment (S.told result.1) (S.fault_count result.1) (R.left input.new) (R.fault_count input.new) (C.most result.2) (C.last result.2))
         (W.fault_count output.old) (W.fault_count output.new)
         → (result.0 ≡ 0) ⊎ (result.0 ≡ 8) }
 {
@@ -58,8 +58,8 @@ fn decide<S: Store, C: Clock, R: Source>(
     input: &mut R,
 ) -> Verdict
     ensures means { Means result words.now (S.is_honest store.old)
-        (moment (S.told store.old) (S.fault_count store.old) (R.left input.old) (R.fault_count input.old) (C.most clock.old))
-        (moment (S.told store.new) (S.fault_count store.new) (R.left input.new) (R.fault_count input.new) (C.most clock.new)) }
+        (moment (S.told store.old) (S.fault_count store.old) (R.left input.old) (R.fault_count input.old) (C.most clock.old) (C.last clock.old))
+        (moment (S.told store.new) (S.fault_count store.new) (R.left input.new) (R.fault_count input.new) (C.most clock.new) (C.last clock.new)) }
 {
     if !is_run_solo(words) {
         return Verdict::BadWords;
@@ -84,7 +84,7 @@ fn run_script<S: Store, C: Clock>(
     clock: &mut C,
 ) -> Verdict
     requires { AreSizedUpserts script.now.upserts }
-    ensures ran { Ran result script.now (C.most clock.new) (S.is_honest store.old) (S.told store.old) (S.told store.new)
+    ensures ran { Ran result script.now (C.most clock.new) (C.last clock.new) (S.is_honest store.old) (S.told store.old) (S.told store.new)
         (S.fault_count store.old) (S.fault_count store.new) }
     ensures leaves { Leaves (S.is_honest store.old) script.now.upserts (C.most clock.new) (S.told store.old) (S.told store.new) }
     ensures kept { IsKept (S.told store.old) (S.told store.new) }
@@ -111,7 +111,7 @@ fn run_fresh<S: Store, C: Clock>(
 ) -> Verdict
     requires sized { AreSizedUpserts script.now.upserts }
     requires fresh { IsFresh (S.told store.old) }
-    ensures ran { Ran result script.now (C.most clock.new) (S.is_honest store.old) (S.told store.old) (S.told store.new)
+    ensures ran { Ran result script.now (C.most clock.new) (C.last clock.new) (S.is_honest store.old) (S.told store.old) (S.told store.new)
         (S.fault_count store.old) (S.fault_count store.new) }
     ensures leaves { Leaves (S.is_honest store.old) script.now.upserts (C.most clock.new) (S.told store.old) (S.told store.new) }
 {

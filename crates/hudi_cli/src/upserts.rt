@@ -2,7 +2,7 @@
 ghost use Rattle.std.specs.Prelude.{◌≡◌, ◌≤◌, ◌≤ℤ◌, []};
 ghost use Rattle.hudi_cli.specs.Content.{AreSized, log_name};
 ghost use Rattle.hudi_cli.specs.Run.{AreSizedUpserts};
-ghost use Rattle.hudi_cli.specs.Steps.{Steps, UpsertsAll, last_after};
+ghost use Rattle.hudi_cli.specs.Steps.{AllUp, Steps, StepsUp, UpsertsAll, last_after};
 
 use crate::commit::Outcome;
 use crate::log::commit_bytes;
@@ -40,6 +40,7 @@ fn upsert<S: Store, C: Clock>(
     requires rows { AreSized rows.now }
     ensures step { Steps result rows.now last (C.most clock.new) (S.is_honest store.old) (S.told store.old) (S.told store.new)
         (S.fault_count store.old) (S.fault_count store.new) }
+    ensures up { StepsUp result last (C.last clock.new) }
     ensures honest { S.is_honest store.old → S.is_honest store.new }
     ensures count { S.fault_count store.old ≤ S.fault_count store.new }
     ensures most { C.most clock.old ≤ℤ C.most clock.new }
@@ -72,6 +73,7 @@ pub(crate) fn upsert_all<S: Store, C: Clock>(
     requires none { outcomes.old ≡ [] }
     ensures upserted { UpsertsAll result upserts.now outcomes.new (C.most clock.new) (S.is_honest store.old) (S.told store.old)
         (S.told store.new) (S.fault_count store.old) (S.fault_count store.new) }
+    ensures up { AllUp result (C.last clock.new) outcomes.new }
     ensures honest { S.is_honest store.old → S.is_honest store.new }
     ensures count { S.fault_count store.old ≤ S.fault_count store.new }
     ensures most { C.most clock.old ≤ℤ C.most clock.new }

@@ -12,8 +12,8 @@ pub returns-in-All : goal.returns-in-All
 returns-in-All g c =
     let all = rw c.as_slice.ensures at c.in-All.ensures.upserted in
     let prints = rw c.as_slice-in-All.ensures at c.print.ensures.prints in
-    let ran = Ran-printed c.print.result c.args.script.now c.upsert_all.new.outcomes _ (g.S.Store.is_honest c.args.store.now) _ _ _ _ _ c.requires.fresh all.0 all.1 c.in-All.ensures.count prints in
-    rw c.print.ensures.same (record { ran = ran; leaves = leaves_ran c.print.result c.args.script.now _ _ _ _ _ _ c.requires.fresh ran })
+    let ran = Ran-printed c.print.result c.args.script.now c.upsert_all.new.outcomes _ (g.C.Clock.last c.upsert_all.new.clock) (g.S.Store.is_honest c.args.store.now) _ _ _ _ _ c.in-All.ensures.up c.requires.fresh all.0 all.1 c.in-All.ensures.count prints in
+    rw c.print.ensures.same (record { ran = ran; leaves = leaves_ran c.print.result c.args.script.now _ _ _ _ _ _ _ c.requires.fresh ran })
 
 pub returns-in-Failed-clause-leaves : goal.returns-in-Failed-clause-leaves
 returns-in-Failed-clause-leaves g c = leaves_stopped c.args.script.now.upserts _ _ _ _ c.requires.fresh (rw c.as_slice.ensures at c.in-Failed.ensures.upserted.0)

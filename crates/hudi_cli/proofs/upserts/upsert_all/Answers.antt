@@ -1,16 +1,17 @@
-use Rattle.std.proofs.Common.{◌≡◌, ◌++◌, [], ◌∷◌, ℕ, refl, sym, ap, ◌∙◌, arith}
+use Rattle.std.proofs.Common.{◌≡◌, ◌++◌, [], ◌∷◌, ℕ, refl, inl, sym, ap, ◌∙◌, arith}
 use Rattle.std.proofs.lemmas.Grind.{common_steps}
 use Rattle.std.proofs.lemmas.Int.{ints}
 use Rattle.std.proofs.lemmas.List.{length-append}
 use Rattle.hudi_base.specs.InstantTime.{first_time}
 use Rattle.hudi_cli.specs.Steps.{last_after}
-use Rattle.hudi_cli.proofs.RunParts.{HasRun-none, HasRun-later, HasRun-push, AreCommits-push, IsStopped-push, Rose-earlier, last_drawn-push, commits_of-none, slice_get-item}
+use Rattle.hudi_cli.proofs.RunParts.{KeepsUp-push, HasRun-none, HasRun-later, HasRun-push, AreCommits-push, IsStopped-push, Rose-earlier, last_drawn-push, commits_of-none, slice_get-item}
 use Rattle.hudi_cli.proofs.upserts.upsert_all.Goals as goal
 
 pub loop-line-init : goal.loop-line-init
 loop-line-init g c = rw c.requires.none (record {
   each = refl;
   last = refl;
+  up = inl refl;
   run = HasRun-none c.args.upserts.now (g.C.Clock.most c.args.clock.now) (g.S.Store.told c.args.store.now);
   commits = rw (commits_of-none c.args.upserts.now) tt;
   honest = λ h. h;
@@ -59,6 +60,7 @@ loop-line-preserved g c =
     rw pushed (record {
       each = omega (arith, before.each, length-append c.loop-line.outcomes (c.in-Ran.outcome ∷ []));
       last = c.last_after-last.ensures ∙ ap (λ (last : ℕ). last_after last c.in-Ran.outcome) before.last ∙ sym (last_drawn-push first_time c.loop-line.outcomes c.in-Ran.outcome);
+      up = KeepsUp-push c.loop-line.outcomes c.in-Ran.outcome _ (rw before.last at c.in-Ran.ensures.up);
       run = HasRun-push _ _ _ _ _ _ _ c.line-item.result c.in-Ran.outcome c.in-Ran.ensures.most before.run at ran.0 ran.2;
       commits = AreCommits-push _ _ c.line-item.result c.in-Ran.outcome at before.commits ran.1;
       honest = λ h. c.in-Ran.ensures.honest (before.honest h);
