@@ -1,5 +1,5 @@
 -- The content of a block: what is read is so written, and what is so written is read.
-use Rattle.std.proofs.Common.{◌≡◌, ℕ, zero, suc, ◌^◌, ◌<◌, ◌≤◌, Bool, true, ◌&&◌, leb, eqb, List, [], ◌∷◌, ◌++◌, length, Result, Ok, Err, IsUtf8, refl, sym, ap, subst, ◌∙◌, append_assoc, arith}
+use Rattle.std.proofs.Common.{◌≡◌, ℕ, zero, suc, ◌^◌, ◌<◌, ◌≤◌, Bool, true, ◌&&◌, leb, eqb, List, [], ◌∷◌, ◌++◌, length, map, Result, Ok, Err, Vec, Global, IsUtf8, refl, sym, ap, subst, ◌∙◌, append_assoc, arith}
 use Rattle.std.specs.Prelude.{ℤ, pos, negsuc, FitsSigned, IfOk}
 use Rattle.std.specs.Int.{cast_unsigned, cast_signed, w64}
 use Rattle.std.specs.List.{flat_map, AllByRecursion}
@@ -14,10 +14,11 @@ use Rattle.log_block.specs.Form.{counted}
 use Rattle.log_block.specs.Reading.{◌>>=◌, only_if, number_at, exactly, counted_at}
 use Rattle.log_block.proofs.Numbers.{width4, width8, TakesNumber, number_reads, number_again, exactly_reads, exactly_again, TakesCounted, counted_reads, counted_again}
 use Rattle.log_block.proofs.Taking.{IsBytes, Takes, Takes-then, Takes-le, Reads, Reads-then, Reads-next, Reads-only_if, bind_is, only_if_is}
-use Rattle.hudi_cli.specs.Content.{row_bytes, content_bytes, IsRow, AreRows}
+use Rattle.hudi_cli.specs.Content.{row_bytes, content_bytes, input_row, IsRow, AreRows}
 use Rattle.hudi_cli.specs.ContentReading.{Gives, name_at, rank_at, row_at, rows_at, count_at, content_at}
 use Rattle.hudi_cli.specs.Script.{most_rows, most_key_bytes, most_body_bytes}
 use Rattle.hudi_cli.specs.declared.content.ContentError.{ContentError}
+use Rattle.hudi_cli.specs.declared.content.ContentRow.{ContentRow}
 use Rattle.hudi_cli.specs.declared.script.InputRow.{InputRow}
 
 -- ---- texts
@@ -235,7 +236,11 @@ content_bytes-once a b a_rows b_rows same =
     let second : content_at (content_bytes a) ≡ Ok b = ap content_at same ∙ content_again b b_rows in
     cc
 
+-- the rows that lie in a vector
+abbrev pub rows_in : Vec ContentRow Global → List InputRow
+rows_in rows = map input_row rows.items
+
 -- what a function that answers so found
-pub content_found : (bytes : List ℕ) (read : Result (List InputRow) ContentError) → IsBytes bytes → Gives (λ rows. rows) read (content_at bytes) → IfOk read (λ rows. (bytes ≡ content_bytes rows) × AreRows rows)
-content_found bytes (Ok rows) fits gives = content_taken bytes rows fits gives
+pub content_found : (bytes : List ℕ) (read : Result (Vec ContentRow Global) ContentError) → IsBytes bytes → Gives rows_in read (content_at bytes) → IfOk read (λ rows. (bytes ≡ content_bytes (rows_in rows)) × AreRows (rows_in rows))
+content_found bytes (Ok rows) fits gives = content_taken bytes (rows_in rows) fits gives
 content_found bytes (Err error) fits gives = tt

@@ -14,11 +14,10 @@ use Rattle.hudi_base.specs.Store.{IsLeftBy}
 use Rattle.hudi_base.specs.declared.operation.Operation.{Operation}
 use Rattle.hudi_base.specs.declared.operation.Operation.TheVariants.{Append}
 use Rattle.log_block.specs.Form.{block_bytes}
-use Rattle.hudi_cli.specs.Content.{block_of, log_bytes, log_name}
+use Rattle.hudi_cli.specs.Content.{Commit, block_of, log_bytes, log_name}
 use Rattle.hudi_cli.specs.Run.{IsDrawn, Draws, last_drawn, commits_of, append_of, after_commits, HasRun, IsNext, IsFront, IsLogFront, IsRunImage, LeavesImages, Leaves, IsLeft, IsStopped}
 use Rattle.hudi_cli.specs.Steps.{IsFresh}
 use Rattle.hudi_cli.specs.Verdict.{Ran}
-use Rattle.hudi_cli.specs.declared.commit.Commit.{Commit}
 use Rattle.hudi_cli.specs.declared.commit.Outcome.{Outcome}
 use Rattle.hudi_cli.specs.declared.commit.Outcome.TheVariants.{Committed, TimeOver}
 use Rattle.hudi_cli.specs.declared.script.Script.{Script}

@@ -13,10 +13,9 @@ use Rattle.log_block.specs.Form.{block_bytes}
 use Rattle.payload_merge.specs.Fold.{Batch, fold}
 use Rattle.payload_merge.specs.Laws.{RisesStrictly}
 use Rattle.payload_merge.proofs.Batches.{fold-rising}
-use Rattle.hudi_cli.specs.Content.{IsCommit, block_of, log_bytes, log_name}
+use Rattle.hudi_cli.specs.Content.{Commit, IsCommit, block_of, log_bytes, log_name}
 use Rattle.hudi_cli.specs.Run.{Draws, commits_of, append_of, after_commits, batch_of, latest_from, IsSnapshot, HaveAllRun}
 use Rattle.hudi_cli.specs.Steps.{any_committed, table_of, IsNoLog, HasNoLog, IsOf, IsFresh}
-use Rattle.hudi_cli.specs.declared.commit.Commit.{Commit}
 use Rattle.hudi_cli.specs.declared.commit.Outcome.{Outcome}
 use Rattle.hudi_cli.specs.declared.commit.Outcome.TheVariants.{Committed, TimeOver}
 use Rattle.hudi_cli.specs.declared.script.UpsertLine.{UpsertLine}

@@ -1,5 +1,5 @@
--- Logs: each has one list of commits.
-use Rattle.std.proofs.Common.{◌≡◌, ℕ, zero, suc, ◌+◌, ◌*◌, ◌<◌, ◌≤◌, List, [], ◌∷◌, ◌++◌, length, refl, sym, ap, ◌∙◌, append_assoc, arith}
+-- Logs: each has one list of blocks, and one of commits.
+use Rattle.std.proofs.Common.{◌≡◌, ℕ, zero, suc, ◌+◌, ◌*◌, ◌<◌, ◌≤◌, List, [], ◌∷◌, ◌++◌, length, map, refl, sym, ap, ◌∙◌, append_assoc, arith}
 use Rattle.std.specs.List.{flat_map, AllByRecursion}
 use Rattle.std.specs.Str.{IsAscii}
 use Rattle.std.proofs.lemmas.Grind.{flat_map-append}
@@ -11,8 +11,8 @@ use Rattle.log_block.specs.Form.{header, block_bytes, Fits}
 use Rattle.log_block.specs.declared.block.Block.TheVariants.{Data}
 use Rattle.log_block.proofs.Fronts.{block_bytes-append}
 use Rattle.log_block.proofs.Lengths.{length-counted, length-entry, length-fields, length-block_bytes-parts}
-use Rattle.hudi_cli.specs.Content.{schema, row_bytes, content_bytes, block_of, log_bytes, IsRow, AreRows, IsCommit}
-use Rattle.hudi_cli.specs.declared.commit.Commit.{Commit}
+use Rattle.hudi_cli.specs.Content.{Commit, schema, row_bytes, content_bytes, block_of, log_bytes, IsRow, AreRows, IsCommit, IsLogBlock, data_of, blocks_bytes, log_block_of}
+use Rattle.hudi_cli.specs.declared.log.LogBlock.{LogBlock}
 use Rattle.hudi_cli.specs.declared.script.InputRow.{InputRow}
 use Rattle.hudi_cli.proofs.Contents.{content_bytes-once}
 
@@ -52,15 +52,71 @@ Fits-block_of commit is_commit =
       size = omega (arith, length-fields 3 (header (block_of commit)) content, length-header commit.instant content, length-content_bytes commit.rows is_commit.rows);
     }
 
--- which isn't empty
-pub block_bytes-some : (commit : Commit) → 0 < length (block_bytes (block_of commit))
-block_bytes-some commit = omega (arith, length-block_bytes-parts (block_of commit))
+-- no block is empty
+pub block_bytes-some : (block : LogBlock) → 0 < length (block_bytes (data_of block))
+block_bytes-some block = omega (arith, length-block_bytes-parts (data_of block))
 
--- ---- logs
+-- ---- blocks of the log
 
-pub log_bytes-append : (a b : List Commit) → log_bytes (a ++ b) ≡ log_bytes a ++ log_bytes b
-unfolding log_bytes
-log_bytes-append a b = flat_map-append (λ commit. block_bytes (block_of commit)) a b
+pub blocks_bytes-append : (a b : List LogBlock) → blocks_bytes (a ++ b) ≡ blocks_bytes a ++ blocks_bytes b
+unfolding blocks_bytes
+blocks_bytes-append a b = flat_map-append (λ block. block_bytes (data_of block)) a b
+
+pub blocks_bytes-none : blocks_bytes [] ≡ []
+unfolding blocks_bytes
+blocks_bytes-none = refl
+
+pub blocks_bytes-cons : (block : LogBlock) (blocks : List LogBlock) → blocks_bytes (block ∷ blocks) ≡ block_bytes (data_of block) ++ blocks_bytes blocks
+unfolding blocks_bytes
+blocks_bytes-cons block blocks = refl
+
+-- a log without bytes is of no blocks
+blocks_bytes-empty : (blocks : List LogBlock) → blocks_bytes blocks ≡ [] → blocks ≡ []
+blocks_bytes-empty [] empty = refl
+blocks_bytes-empty (block ∷ blocks) empty =
+    absurd (omega (arith, block_bytes-some block, length-append (block_bytes (data_of block)) (blocks_bytes blocks), ap length (sym (blocks_bytes-cons block blocks) ∙ empty)))
+
+-- no block of the log begins another
+block_once : (a b : LogBlock) (x y : List ℕ) → IsLogBlock a → IsLogBlock b → block_bytes (data_of a) ++ x ≡ block_bytes (data_of b) ++ y → (a ≡ b) × (x ≡ y)
+block_once a b x y a_is b_is same =
+    let blocks = block_bytes-append (data_of a) (data_of b) x y a_is b_is same in
+    let one : data_of a ≡ data_of b = blocks.0 in
+    let instants : a.instant ≡ b.instant = cc in
+    let contents : a.content ≡ b.content = cc in
+    let made : ℕ → List ℕ → LogBlock = λ instant content. record { instant = instant; content = content } in
+    (ap (λ (instant : ℕ). made instant a.content) instants ∙ ap (λ (content : List ℕ). made b.instant content) contents, blocks.1)
+
+-- a log that begins with another is of its blocks and of more
+pub record GoesOn (a b : List LogBlock) (rest : List ℕ) : Type 0 where
+  pub more : List LogBlock
+  pub whole : b ≡ a ++ more
+  pub are : AllByRecursion IsLogBlock more
+  pub bytes : rest ≡ blocks_bytes more
+
+pub log_goes_on : (a b : List LogBlock) (rest : List ℕ) → AllByRecursion IsLogBlock a → AllByRecursion IsLogBlock b → blocks_bytes a ++ rest ≡ blocks_bytes b → GoesOn a b rest
+log_goes_on [] b rest a_are b_are same = record { more = b; whole = refl; are = b_are; bytes = ap (λ (front : List ℕ). front ++ rest) (sym blocks_bytes-none) ∙ same }
+log_goes_on (c ∷ a) [] rest a_are b_are same =
+    absurd (omega (arith, block_bytes-some c, length-append (blocks_bytes (c ∷ a)) rest, length-append (block_bytes (data_of c)) (blocks_bytes a), ap length (blocks_bytes-cons c a), ap length (same ∙ blocks_bytes-none)))
+log_goes_on (c ∷ a) (d ∷ b) rest a_are b_are same =
+    let front = block_bytes (data_of c) in
+    let parts = block_once c d (blocks_bytes a ++ rest) (blocks_bytes b) a_are.0 b_are.0
+    (sym (append_assoc front (blocks_bytes a) rest) ∙ ap (λ (t : List ℕ). t ++ rest) (sym (blocks_bytes-cons c a)) ∙ same ∙ blocks_bytes-cons d b) in
+    let then = log_goes_on a b rest a_are.1 b_are.1 parts.1 in
+    record {
+      more = then.more;
+      whole = ap (λ (block : LogBlock). block ∷ b) (sym parts.0) ∙ ap (λ (blocks : List LogBlock). c ∷ blocks) then.whole;
+      are = then.are;
+      bytes = then.bytes;
+    }
+
+-- each log has one list of blocks
+blocks_once : (a b : List LogBlock) → AllByRecursion IsLogBlock a → AllByRecursion IsLogBlock b → blocks_bytes a ≡ blocks_bytes b → a ≡ b
+blocks_once a b a_are b_are same =
+    let then = log_goes_on a b [] a_are b_are (append-nil (blocks_bytes a) ∙ same) in
+    let none : then.more ≡ [] = blocks_bytes-empty then.more (sym then.bytes) in
+    sym (then.whole ∙ ap (λ (more : List LogBlock). a ++ more) none ∙ append-nil a)
+
+-- ---- logs of commits
 
 pub log_bytes-none : log_bytes [] ≡ []
 unfolding log_bytes
@@ -70,49 +126,39 @@ pub log_bytes-cons : (commit : Commit) (commits : List Commit) → log_bytes (co
 unfolding log_bytes
 log_bytes-cons commit commits = refl
 
--- a log without bytes is of no commits
-pub log_bytes-empty : (commits : List Commit) → log_bytes commits ≡ [] → commits ≡ []
-log_bytes-empty [] empty = refl
-log_bytes-empty (commit ∷ commits) empty =
-    absurd (omega (arith, block_bytes-some commit, length-append (block_bytes (block_of commit)) (log_bytes commits), ap length (sym (log_bytes-cons commit commits) ∙ empty)))
+-- the log of commits is that of their blocks
+pub log_bytes-blocks : (commits : List Commit) → log_bytes commits ≡ blocks_bytes (map log_block_of commits)
+log_bytes-blocks [] = log_bytes-none ∙ sym blocks_bytes-none
+log_bytes-blocks (commit ∷ commits) =
+    log_bytes-cons commit commits
+    ∙ ap (λ (t : List ℕ). block_bytes (block_of commit) ++ t) (log_bytes-blocks commits)
+    ∙ sym (blocks_bytes-cons (log_block_of commit) (map log_block_of commits))
 
--- no commit's block begins another's
-pub commit_once : (a b : Commit) (x y : List ℕ) → IsCommit a → IsCommit b → block_bytes (block_of a) ++ x ≡ block_bytes (block_of b) ++ y → (a ≡ b) × (x ≡ y)
-commit_once a b x y a_is b_is same =
-    let blocks = block_bytes-append (block_of a) (block_of b) x y (Fits-block_of a a_is) (Fits-block_of b b_is) same in
-    let one : block_of a ≡ block_of b = blocks.0 in
-    let instants : a.instant ≡ b.instant = cc in
-    let contents : content_bytes a.rows ≡ content_bytes b.rows = cc in
-    let rows : a.rows ≡ b.rows = content_bytes-once a.rows b.rows a_is.rows b_is.rows contents in
+pub commits_fit : (commits : List Commit) → AllByRecursion IsCommit commits → AllByRecursion IsLogBlock (map log_block_of commits)
+commits_fit [] are = tt
+commits_fit (commit ∷ commits) are = (Fits-block_of commit are.0, commits_fit commits are.1)
+
+-- so it is of no other blocks
+pub blocks_of_log : (blocks : List LogBlock) (commits : List Commit) → AllByRecursion IsLogBlock blocks → AllByRecursion IsCommit commits → blocks_bytes blocks ≡ log_bytes commits → blocks ≡ map log_block_of commits
+blocks_of_log blocks commits are commits_are same = blocks_once blocks (map log_block_of commits) are (commits_fit commits commits_are) (same ∙ log_bytes-blocks commits)
+
+-- each block is of one commit
+same_commits : (a b : List Commit) → AllByRecursion IsCommit a → AllByRecursion IsCommit b → map log_block_of a ≡ map log_block_of b → a ≡ b
+same_commits [] [] a_are b_are same = refl
+same_commits [] (d ∷ b) a_are b_are same = absurd cc
+same_commits (c ∷ a) [] a_are b_are same = absurd cc
+same_commits (c ∷ a) (d ∷ b) a_are b_are same =
+    let parts = both (log_block_of c) (log_block_of d) (map log_block_of a) (map log_block_of b) same in
+    let instants : c.instant ≡ d.instant = ap (λ (block : LogBlock). block.instant) parts.0 in
+    let rows : c.rows ≡ d.rows = content_bytes-once c.rows d.rows a_are.0.rows b_are.0.rows (ap (λ (block : LogBlock). block.content) parts.0) in
     let made : ℕ → List InputRow → Commit = λ instant held. record { instant = instant; rows = held } in
-    (ap (λ (instant : ℕ). made instant a.rows) instants ∙ ap (λ (held : List InputRow). made b.instant held) rows, blocks.1)
-
--- a log that begins with another is of its commits and of more
-pub record GoesOn (a b : List Commit) (rest : List ℕ) : Type 0 where
-  pub more : List Commit
-  pub whole : b ≡ a ++ more
-  pub are : AllByRecursion IsCommit more
-  pub bytes : rest ≡ log_bytes more
-
-pub log_goes_on : (a b : List Commit) (rest : List ℕ) → AllByRecursion IsCommit a → AllByRecursion IsCommit b → log_bytes a ++ rest ≡ log_bytes b → GoesOn a b rest
-log_goes_on [] b rest a_are b_are same = record { more = b; whole = refl; are = b_are; bytes = ap (λ (front : List ℕ). front ++ rest) (sym log_bytes-none) ∙ same }
-log_goes_on (c ∷ a) [] rest a_are b_are same =
-    absurd (omega (arith, block_bytes-some c, length-append (log_bytes (c ∷ a)) rest, length-append (block_bytes (block_of c)) (log_bytes a), ap length (log_bytes-cons c a), ap length (same ∙ log_bytes-none)))
-log_goes_on (c ∷ a) (d ∷ b) rest a_are b_are same =
-    let front = block_bytes (block_of c) in
-    let parts = commit_once c d (log_bytes a ++ rest) (log_bytes b) a_are.0 b_are.0
-    (sym (append_assoc front (log_bytes a) rest) ∙ ap (λ (t : List ℕ). t ++ rest) (sym (log_bytes-cons c a)) ∙ same ∙ log_bytes-cons d b) in
-    let then = log_goes_on a b rest a_are.1 b_are.1 parts.1 in
-    record {
-      more = then.more;
-      whole = ap (λ (commit : Commit). commit ∷ b) (sym parts.0) ∙ ap (λ (commits : List Commit). c ∷ commits) then.whole;
-      are = then.are;
-      bytes = then.bytes;
-    }
+    let first : c ≡ d = ap (λ (instant : ℕ). made instant c.rows) instants ∙ ap (λ (held : List InputRow). made d.instant held) rows in
+    ap (λ (commit : Commit). commit ∷ a) first ∙ ap (λ (commits : List Commit). d ∷ commits) (same_commits a b a_are.1 b_are.1 parts.1)
+  where
+    both : (x y : LogBlock) (xs ys : List LogBlock) → x ∷ xs ≡ y ∷ ys → (x ≡ y) × (xs ≡ ys)
+    both x y xs ys same = (cc, cc)
 
 -- each log has one list of commits
 pub log_once : (a b : List Commit) → AllByRecursion IsCommit a → AllByRecursion IsCommit b → log_bytes a ≡ log_bytes b → a ≡ b
 log_once a b a_are b_are same =
-    let then = log_goes_on a b [] a_are b_are (append-nil (log_bytes a) ∙ same) in
-    let none : then.more ≡ [] = log_bytes-empty then.more (sym then.bytes) in
-    sym (then.whole ∙ ap (λ (more : List Commit). a ++ more) none ∙ append-nil a)
+    same_commits a b a_are b_are (blocks_of_log (map log_block_of a) b (commits_fit a a_are) b_are (sym (log_bytes-blocks a) ∙ same))

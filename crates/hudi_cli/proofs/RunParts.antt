@@ -9,11 +9,10 @@ use Rattle.hudi_cli.proofs.ContentParts.{AllByRecursion-append}
 use Rattle.hudi_cli.specs.Run.{IsDrawn, KeepsUp, Draws, DrawsNext, last_drawn, commits_of, append_of, after_commits, HasRun, IsStopped}
 use Rattle.hudi_cli.specs.Steps.{StepsUp, commit_of, last_after}
 use Rattle.hudi_cli.specs.declared.upserts.Step.TheVariants as step
-use Rattle.hudi_cli.specs.Content.{IsCommit}
+use Rattle.hudi_cli.specs.Content.{Commit, IsCommit}
 use Rattle.std.specs.FinMap.{get}
 use Rattle.hudi_base.specs.Store.{Fails, Has}
 use Rattle.std.specs.List.{AllByRecursion}
-use Rattle.hudi_cli.specs.declared.commit.Commit.{Commit}
 use Rattle.hudi_cli.specs.declared.commit.Outcome.{Outcome}
 use Rattle.hudi_cli.specs.declared.commit.Outcome.TheVariants.{Committed, TimeOver}
 use Rattle.hudi_cli.specs.declared.script.UpsertLine.{UpsertLine}

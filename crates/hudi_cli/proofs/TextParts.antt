@@ -5,6 +5,7 @@ use Rattle.json.specs.Token.{Token, begin_object, end_object, begin_array, end_a
 use Rattle.json.specs.Print.{print}
 use Rattle.json.specs.Tree.{json_tokens, items_tokens}
 use Rattle.hudi_base.specs.InstantTime.{time_text}
+use Rattle.payload_merge.specs.declared.lent_rows.LentRow.{LentRow}
 use Rattle.payload_merge.specs.declared.row.Row.{Row}
 use Rattle.serde_json.specs.Data.{array}
 use Rattle.serde_json.specs.Find.{of_integer}
@@ -14,7 +15,7 @@ use Rattle.serde_json.proofs.Texts.{print-outline}
 use Rattle.hudi_cli.specs.declared.commit.Outcome.{Outcome}
 use Rattle.hudi_cli.specs.declared.commit.Outcome.TheVariants.{Committed, TimeOver}
 use Rattle.hudi_cli.specs.declared.script.UpsertLine.{UpsertLine}
-use Rattle.hudi_cli.specs.Output.{row_data, line_end, rows_text, seqno, time_or_none, snapshot_text, upsert_text, upserts_text}
+use Rattle.hudi_cli.specs.Output.{row_data, row_shown, line_end, rows_text, seqno, time_or_none, snapshot_text, upsert_text, upserts_text}
 
 -- a row's tokens, written one after another
 pub row_written : (row : Row) (before : List Token) {seqno_text time body key_text : List ℕ} {opened with_seqno with_time with_body with_key with_rank after : List Token}
@@ -50,14 +51,16 @@ unfolding rest_tokens
 rest_tokens-nil = refl
 
 -- one row more
-pub rest_tokens-more : (rows : List Row) (i : ℕ) (row : Row) → i < length rows → row ≡ get_or rows i row
-    → rest_tokens (drop i rows) ≡ json_tokens (outline (row_data row)) ++ rest_tokens (drop (i + 1) rows)
+pub rest_tokens-more : (rows : List LentRow) (i : ℕ) (row : LentRow) → i < length rows → row ≡ get_or rows i row
+    → rest_tokens (map row_shown (drop i rows)) ≡ json_tokens (outline (row_data (row_shown row))) ++ rest_tokens (map row_shown (drop (i + 1) rows))
 rest_tokens-more rows i row within is =
-    ap rest_tokens (drop_more rows i row within) ∙ ap (λ one. rest_tokens (one ∷ drop (i + 1) rows)) (sym is) ∙ rest_tokens-cons row (drop (i + 1) rows)
+    ap (λ left. rest_tokens (map row_shown left)) (drop_more rows i row within)
+    ∙ ap (λ one. rest_tokens (row_shown one ∷ map row_shown (drop (i + 1) rows))) (sym is)
+    ∙ rest_tokens-cons (row_shown row) (map row_shown (drop (i + 1) rows))
 
 -- no row is left
-pub rest_tokens-end : (rows : List Row) (i : ℕ) → length rows ≤ i → rest_tokens (drop i rows) ≡ end_array ∷ []
-rest_tokens-end rows i past = ap rest_tokens (drop_all i rows past) ∙ rest_tokens-nil
+pub rest_tokens-end : (rows : List LentRow) (i : ℕ) → length rows ≤ i → rest_tokens (map row_shown (drop i rows)) ≡ end_array ∷ []
+rest_tokens-end rows i past = ap (λ left. rest_tokens (map row_shown left)) (drop_all i rows past) ∙ rest_tokens-nil
 
 -- what the tokens of rows print
 pub print-rows : (rows : List Row) → print ([] ++ json_tokens (outline (array (items_of (map row_data rows))))) ≡ rows_text rows

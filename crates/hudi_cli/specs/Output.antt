@@ -1,11 +1,14 @@
 -- What is printed: a line for each job. This project's own.
 use Rattle.std.specs.Prelude.{ℕ, List, [], ◌∷◌, ◌++◌, codes, map, decimal, Option, Some, None, IsUtf8}
 use Rattle.hudi_base.specs.InstantTime.{time_text}
+use Rattle.payload_merge.specs.declared.lent_rows.LentRow.{LentRow}
 use Rattle.payload_merge.specs.declared.row.Row.{Row}
+use Rattle.payload_merge.specs.LentRows.{row_in}
 use Rattle.serde_json.specs.Data.{Data, number, string, array, object, no_members, member}
 use Rattle.serde_json.specs.Find.{of_integer}
 use Rattle.serde_json.specs.View.{items_of}
 use Rattle.serde_json.specs.Written.{compact_text}
+use Rattle.hudi_cli.specs.Content.{partition}
 use Rattle.hudi_cli.specs.declared.commit.Outcome.{Outcome}
 use Rattle.hudi_cli.specs.declared.commit.Outcome.TheVariants.{Committed, TimeOver}
 use Rattle.hudi_cli.specs.declared.script.Script.{Script}
@@ -27,6 +30,10 @@ row_data row =
     (member (codes "body") (string row.body)
     (member (codes "key") (string row.key)
     (member (codes "rank") (number (of_integer row.rank)) no_members)))))
+
+-- the row of the one partition that a lent row is
+abbrev pub row_shown : LentRow → Row
+row_shown lent = row_in partition lent
 
 -- a row whose key and body are texts
 pub record IsPrintable (row : Row) : Type 0 where

@@ -1,6 +1,6 @@
 -- What a run does, as it is seen from outside: the folder's store, the clock, the input and the output. This project's
 -- own.
-use Rattle.std.specs.Prelude.{◌≡◌, ◌≢◌, ◌⊎◌, ℕ, ◌+◌, ◌<◌, ◌≤◌, max, ℤ, pos, ◌≤ℤ◌, List, [], ◌∷◌, ◌++◌, length, take, map, codes, slice_get, Option, Some, None, IfSome}
+use Rattle.std.specs.Prelude.{◌≡◌, ◌≢◌, ◌⊎◌, ℕ, ◌+◌, ◌<◌, ◌≤◌, max, ℤ, pos, ◌≤ℤ◌, List, [], ◌∷◌, ◌++◌, length, take, map, slice_get, Option, Some, None, IfSome}
 use Rattle.std.specs.FinMap.{empty, insert}
 use Rattle.std.specs.List.{AllByRecursion}
 use Rattle.hudi_base.specs.Files.{FileMap, IsImage, Told, after}
@@ -12,9 +12,8 @@ use Rattle.log_block.specs.Form.{block_bytes}
 use Rattle.payload_merge.specs.Fold.{Batch, RowTable, fold, rows_of}
 use Rattle.payload_merge.specs.declared.row.Write.{Write}
 use Rattle.payload_merge.specs.declared.row.Write.TheVariants.{Put}
-use Rattle.hudi_cli.specs.Content.{block_of, log_bytes, log_name, AreSized}
+use Rattle.hudi_cli.specs.Content.{Commit, block_of, log_bytes, log_name, partition, AreSized}
 use Rattle.hudi_cli.specs.Output.{output_text}
-use Rattle.hudi_cli.specs.declared.commit.Commit.{Commit}
 use Rattle.hudi_cli.specs.declared.commit.Outcome.{Outcome}
 use Rattle.hudi_cli.specs.declared.commit.Outcome.TheVariants.{Committed, TimeOver}
 use Rattle.hudi_cli.specs.declared.script.InputRow.{InputRow}
@@ -72,7 +71,7 @@ after_commits told (commit ∷ commits) = after_commits (after told (append_of c
 
 -- a row as a put into the one partition
 abbrev pub put_of : InputRow → Write
-put_of row = Put (record { partition = codes "x"; key = row.key; rank = row.rank; commit = first_time; seq = 0; body = row.body })
+put_of row = Put (record { partition = partition; key = row.key; rank = row.rank; commit = first_time; seq = 0; body = row.body })
 
 -- a commit as a batch of puts
 abbrev pub batch_of : Commit → Batch

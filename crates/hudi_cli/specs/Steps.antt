@@ -1,8 +1,9 @@
 -- What the parts of a run answer. Only private clauses cite it.
-use Rattle.std.specs.Prelude.{◌≡◌, ◌≢◌, ◌⊎◌, ℕ, ℤ, pos, ◌≤ℤ◌, Option, IfSome, Bool, true, false, List, [], ◌∷◌, map, flat_map, None, Result, Ok, Err}
+use Rattle.std.specs.Prelude.{◌≡◌, ◌≢◌, ◌⊎◌, ℕ, ℤ, pos, ◌≤ℤ◌, Option, IfSome, Bool, true, false, List, [], ◌∷◌, map, flat_map, None, Some, Result, Ok, Err}
 use Rattle.std.specs.FinMap.{empty}
 use Rattle.payload_merge.specs.Fold.{RowTable, after_all, rows_of, writes_of}
-use Rattle.payload_merge.specs.declared.merge_error.MergeError.{MergeError}
+use Rattle.payload_merge.specs.LentRows.{put_in}
+use Rattle.payload_merge.specs.declared.lent_rows.LentRow.{LentRow}
 use Rattle.hudi_cli.specs.Output.{IsPrintable, output_text}
 use Rattle.hudi_cli.specs.Verdict.{Ends}
 use Rattle.std.specs.List.{AllByRecursion}
@@ -10,11 +11,13 @@ use Rattle.hudi_base.specs.Faults.{Rose}
 use Rattle.hudi_base.specs.InstantTime.{last_time}
 use Rattle.hudi_base.specs.Files.{Told}
 use Rattle.hudi_base.specs.Store.{Fails, Has, Lacks}
-use Rattle.hudi_cli.specs.Content.{IsCommit, log_bytes, log_name}
-use Rattle.hudi_cli.specs.Run.{IsDrawn, batch_of, latest_from, DrawsNext, append_of, commits_of, after_commits, HaveAllRun, KeepsUp, IsStopped, IsWanting}
-use Rattle.hudi_cli.specs.declared.commit.Commit.{Commit}
+use Rattle.hudi_cli.specs.Content.{Commit, IsCommit, IsLogBlock, blocks_bytes, log_block_of, log_bytes, log_name, partition}
+use Rattle.hudi_cli.specs.Run.{IsDrawn, batch_of, later, latest_from, DrawsNext, append_of, commits_of, after_commits, HaveAllRun, KeepsUp, IsStopped, IsWanting}
 use Rattle.hudi_cli.specs.declared.commit.Outcome.{Outcome}
 use Rattle.hudi_cli.specs.declared.commit.Outcome.TheVariants.{Committed, TimeOver}
+use Rattle.hudi_cli.specs.declared.content.ContentError.{ContentError}
+use Rattle.hudi_cli.specs.declared.content.ContentError.TheVariants as content_error
+use Rattle.hudi_cli.specs.declared.log.LogBlock.{LogBlock}
 use Rattle.hudi_cli.specs.declared.script.InputRow.{InputRow}
 use Rattle.hudi_cli.specs.declared.script.UpsertLine.{UpsertLine}
 use Rattle.hudi_cli.specs.declared.script.Script.{Script}
@@ -24,9 +27,6 @@ use Rattle.hudi_cli.specs.declared.upserts.Step.{Step}
 use Rattle.hudi_cli.specs.declared.upserts.Step.TheVariants as step
 use Rattle.hudi_cli.specs.declared.upserts.Upserted.{Upserted}
 use Rattle.hudi_cli.specs.declared.upserts.Upserted.TheVariants as upserted
-use Rattle.hudi_cli.specs.declared.snapshot.Shown.{Shown}
-use Rattle.hudi_cli.specs.declared.snapshot.Shown.TheVariants as shows
-use Rattle.hudi_cli.specs.declared.snapshot.Snapshot.{Snapshot}
 use Rattle.hudi_cli.specs.declared.snapshot.Found.{Found}
 use Rattle.hudi_cli.specs.declared.snapshot.Found.TheVariants as found
 
@@ -77,7 +77,7 @@ HasNoLog told = Lacks told log_name ⊎ Has told log_name IsNoLog
 
 -- the log that was read back
 abbrev pub ReadsBack : Found → Told → ℕ → ℕ → Type 0
-ReadsBack (found.Commits commits) told faults then = AllByRecursion IsCommit commits × Has told log_name (λ bytes. bytes ≡ log_bytes commits)
+ReadsBack (found.Blocks blocks) told faults then = AllByRecursion IsLogBlock blocks × Has told log_name (λ bytes. bytes ≡ blocks_bytes blocks)
 ReadsBack found.Bad told faults then = HasNoLog told
 ReadsBack found.Failed told faults then = Rose faults then
 ReadsBack found.Memory told faults then = Unit {0}
@@ -94,26 +94,36 @@ any_committed (TimeOver ∷ outcomes) = any_committed outcomes
 abbrev pub table_of : List Commit → RowTable
 table_of commits = after_all empty (flat_map writes_of (map batch_of commits))
 
--- what folding commits came to
-pub record IsFolded (commits : List Commit) (snapshot : Snapshot) : Type 0 where
-  pub time : snapshot.time ≡ latest_from None commits
-  pub rows : snapshot.rows ≡ rows_of (table_of commits)
-  pub printable : AllByRecursion IsPrintable snapshot.rows
+-- blocks that are those of commits
+pub record AreBlocksOf (blocks : List LogBlock) (commits : List Commit) : Type 0 where
+  pub are : AllByRecursion IsCommit commits
+  pub same : blocks ≡ map log_block_of commits
 
-abbrev pub ShowsFolded : Shown → Result Snapshot MergeError → Type 0
-ShowsFolded shown (Ok snapshot) = shown ≡ shows.Snapshot snapshot
-ShowsFolded shown (Err error) = shown ≡ shows.Memory
+-- puts that make the table of the commits whose blocks these are
+pub record ArePutsOf (blocks : List LogBlock) (commits : List Commit) (puts : List LentRow) : Type 0 where
+  pub blocks_are : AreBlocksOf blocks commits
+  pub table : after_all empty (map (put_in partition) puts) ≡ table_of commits
+  pub printable : AllByRecursion IsPrintable (rows_of (table_of commits))
+
+-- the blocks are those of no commits, unless memory ran out
+abbrev pub HoldNone : ContentError → List LogBlock → Type 0
+HoldNone content_error.Bad blocks = (commits : List Commit) → ¬ AreBlocksOf blocks commits
+HoldNone content_error.Memory blocks = Unit {0}
+
+-- what reading the rows of blocks came to: puts, or the blocks are those of no commits
+abbrev pub HoldPuts : {V : Type 0} → (V → List LentRow) → Result V ContentError → List LogBlock → Type 0
+HoldPuts view (Ok puts) blocks = (commits : List Commit) × ArePutsOf blocks commits (view puts)
+HoldPuts view (Err error) blocks = HoldNone error blocks
+
+-- the greatest instant of blocks and of what came before them
+abbrev pub latest_block : Option ℕ → List LogBlock → Option ℕ
+latest_block time [] = time
+latest_block time (block ∷ blocks) = latest_block (Some (later time block.instant)) blocks
 
 -- the commits that a snapshot is of: those that were read back, if an upsert drew a time, and none otherwise
 abbrev pub IsOf : Bool → Told → List Commit → Type 0
 IsOf true told commits = AllByRecursion IsCommit commits × Has told log_name (λ bytes. bytes ≡ log_bytes commits)
 IsOf false told commits = commits ≡ []
-
-abbrev pub Shows : Shown → List Outcome → Told → ℕ → ℕ → Type 0
-Shows (shows.Snapshot snapshot) outcomes told faults then = (commits : List Commit) × IsOf (any_committed outcomes) told commits × IsFolded commits snapshot
-Shows shows.Bad outcomes told faults then = (any_committed outcomes ≡ true) × HasNoLog told
-Shows shows.Failed outcomes told faults then = Rose faults then
-Shows shows.Memory outcomes told faults then = Unit {0}
 
 -- ---- the end
 
@@ -125,6 +135,14 @@ Prints BadTable script outcomes told faults then = (any_committed outcomes ≡ t
 Prints StoreFailed script outcomes told faults then = Rose faults then
 Prints OutOfMemory script outcomes told faults then = Unit {0}
 Prints _ script outcomes told faults then = ⊥
+
+-- what is printed of blocks
+abbrev pub PrintsBlocks : Verdict → Script → List Outcome → List LogBlock → Type 0
+PrintsBlocks (Done text) script outcomes blocks =
+    (commits : List Commit) × AreBlocksOf blocks commits × (text ≡ output_text script outcomes (latest_from None commits) (rows_of (table_of commits)))
+PrintsBlocks BadTable script outcomes blocks = (commits : List Commit) → ¬ AreBlocksOf blocks commits
+PrintsBlocks OutOfMemory script outcomes blocks = Unit {0}
+PrintsBlocks _ script outcomes blocks = ⊥
 
 -- a text that is printed, if there is memory for it
 abbrev pub PrintsText : Verdict → List ℕ → Type 0

@@ -1,19 +1,29 @@
 // The content of a block: the rows of a commit.
-ghost use Rattle.std.specs.Prelude.{◌≡◌, ◌++◌, List, IfOk, OnOk, Ok};
+ghost use Rattle.std.specs.Prelude.{◌≡◌, ◌++◌, List, map, IfOk, OnOk, Ok};
 ghost use Rattle.std.specs.List.{flat_map, AllByRecursion};
-ghost use Rattle.hudi_cli.specs.Content.{row_bytes, content_bytes, IsRow, AreRows, IsSized, AreSized};
+ghost use Rattle.hudi_cli.specs.Content.{row_bytes, content_bytes, input_row, IsRow, AreRows, IsSized, AreSized};
 ghost use Rattle.hudi_cli.specs.ContentReading.{Gives, name_at, rank_at, row_at, rows_at, count_at, content_at};
 ghost use Rattle.hudi_cli.specs.declared.content.ContentError.TheVariants.{Memory, Bad};
 ghost use Rattle.hudi_cli.specs.declared.script.InputRow.{InputRow};
 
-use crate::script::{InputRow, InputRows, MOST_BODY_BYTES, MOST_KEY_BYTES, is_upsert_length};
-use hudi_base::{Name, Sequence};
+use crate::script::{InputRow, MOST_BODY_BYTES, MOST_KEY_BYTES, is_upsert_length};
 use log_block::Fault;
 use log_block::fields::{after_u32, put_text, put_u32, put_u64, text_at, u32_at, u64_at};
 use std::alloc::{AllocError, Global};
 
 // The version of the form of a content.
 const VERSION: u32 = 3;
+
+// A row of a content has at least so many bytes: a key of one byte and a body of none, the length of each, and the rank.
+const LEAST_ROW_BYTES: usize = 17;
+
+/// A row as it stands in a content.
+#[derive(Clone, Copy)]
+pub struct ContentRow<'a> {
+    pub key: &'a str,
+    pub rank: i64,
+    pub body: &'a str,
+}
 
 /// Why bytes were not read: want of memory, or they are not what was to be read.
 #[derive(Clone, Copy, Debug, PartialEq, Eq)]
@@ -79,20 +89,15 @@ pub fn content_bytes(alloc: Global, rows: &[InputRow]) -> Result<Vec<u8>, AllocE
 
 // A text of at least and at most so many bytes, behind its length.
 #[tactic(auto, using(crate::proofs::ContentParts::texts), unfolding(crate::specs::ContentReading::name_at))]
-fn name_at(
-    alloc: Global,
-    least: usize,
-    most: usize,
-    bytes: &[u8],
-) -> Result<(Name, &[u8]), ContentError>
-    ensures { Gives (λ x. (x.0, x.1.now)) result (name_at least most bytes.now) }
+fn name_at(least: usize, most: usize, bytes: &[u8]) -> Result<(&str, &[u8]), ContentError>
+    ensures { Gives (λ x. (x.0.now, x.1.now)) result (name_at least most bytes.now) }
 {
     let (text, rest) = text_at(bytes)?;
     if text.len() < least || text.len() > most {
         return Err(ContentError::Bad);
     }
     match std::str::from_utf8(text) {
-        Ok(text) => Ok((Name::from_text(alloc, text)?, rest)),
+        Ok(text) => Ok((text, rest)),
         Err(_) => Err(ContentError::Bad),
     }
 }
@@ -108,25 +113,32 @@ fn rank_at(bytes: &[u8]) -> Result<(i64, &[u8]), ContentError>
 
 // A row.
 #[tactic(auto, unfolding(crate::specs::ContentReading::row_at))]
-fn row_at(alloc: Global, bytes: &[u8]) -> Result<(InputRow, &[u8]), ContentError>
-    ensures { Gives (λ x. (x.0, x.1.now)) result (row_at bytes.now) }
+fn row_at(bytes: &[u8]) -> Result<(ContentRow<'_>, &[u8]), ContentError>
+    ensures { Gives (λ x. (input_row x.0, x.1.now)) result (row_at bytes.now) }
 {
-    let (key, rest) = name_at(alloc, 1, MOST_KEY_BYTES, bytes)?;
+    let (key, rest) = name_at(1, MOST_KEY_BYTES, bytes)?;
     let (rank, rest) = rank_at(rest)?;
-    let (body, rest) = name_at(alloc, 0, MOST_BODY_BYTES, rest)?;
-    Ok((InputRow { key, rank, body }, rest))
+    let (body, rest) = name_at(0, MOST_BODY_BYTES, rest)?;
+    Ok((ContentRow { key, rank, body }, rest))
 }
 
-// So many rows.
+// So many rows. There is room from the start for as many of them as the bytes may hold.
 #[tactic(auto, using(crate::proofs::ContentParts::rows))]
-fn rows_at(alloc: Global, count: u32, bytes: &[u8]) -> Result<(InputRows, &[u8]), ContentError>
-    ensures { Gives (λ x. (x.0, x.1.now)) result (rows_at count bytes.now) }
+fn rows_at<'a>(
+    alloc: Global,
+    count: u32,
+    bytes: &'a [u8],
+) -> Result<(Vec<ContentRow<'a>>, &'a [u8]), ContentError>
+    ensures { Gives (λ x. (map input_row x.0.items, x.1.now)) result (rows_at count bytes.now) }
 {
-    let mut rows = Sequence::new(alloc);
+    let room = (count as usize).min(bytes.len() / LEAST_ROW_BYTES);
+    let mut rows = Vec::with_capacity(alloc, room)?;
     let mut rest = bytes;
     for _ in 0..count {
-        let (row, after) = row_at(alloc, rest)?;
-        rows.push(row)?;
+        let (row, after) = row_at(rest)?;
+        if rows.push(row).is_err() {
+            return Err(ContentError::Memory);
+        }
         rest = after;
     }
     Ok((rows, rest))
@@ -147,8 +159,8 @@ fn count_at(bytes: &[u8]) -> Result<(u32, &[u8]), ContentError>
 
 // The rows, behind which nothing stands.
 #[tactic(auto, unfolding(crate::specs::ContentReading::content_at))]
-fn content_at(alloc: Global, content: &[u8]) -> Result<InputRows, ContentError>
-    ensures { Gives (λ rows. rows) result (content_at content.now) }
+fn content_at<'a>(alloc: Global, content: &'a [u8]) -> Result<Vec<ContentRow<'a>>, ContentError>
+    ensures { Gives (λ rows. map input_row rows.items) result (content_at content.now) }
 {
     let (count, rest) = count_at(content)?;
     let (rows, rest) = rows_at(alloc, count, rest)?;
@@ -158,14 +170,17 @@ fn content_at(alloc: Global, content: &[u8]) -> Result<InputRows, ContentError>
     Ok(rows)
 }
 
-/// The rows of a content.
-pub fn rows_of_content(alloc: Global, content: &[u8]) -> Result<InputRows, ContentError>
+/// The rows of a content, which lends each its key and its body.
+pub fn rows_of_content<'a>(
+    alloc: Global,
+    content: &'a [u8],
+) -> Result<Vec<ContentRow<'a>>, ContentError>
     // What is read is so written.
-    ensures found { IfOk result (λ rows. (content.now ≡ content_bytes rows) × AreRows rows) }
+    ensures found { IfOk result (λ rows. (content.now ≡ content_bytes (map input_row rows.items)) × AreRows (map input_row rows.items)) }
     // What is so written is read, unless memory runs out.
-    ensures only { (rows : List InputRow) → AreRows rows → content.now ≡ content_bytes rows → Gives (λ read. read) result (Ok rows) }
+    ensures only { (rows : List InputRow) → AreRows rows → content.now ≡ content_bytes rows → Gives (λ read. map input_row read.items) result (Ok rows) }
     // Which rows they are, by the order in which the fields are read.
-    ensures exact { Gives (λ rows. rows) result (content_at content.now) }
+    ensures exact { Gives (λ rows. map input_row rows.items) result (content_at content.now) }
 {
     content_at(alloc, content)
 }

@@ -1,11 +1,10 @@
-// The log file, as blocks of commits.
+// The log file: its blocks, each of one commit.
 ghost use Rattle.std.specs.Prelude.{◌≡◌, ◌<◌, length, IfOk, IfErr, OnOk};
 ghost use Rattle.log_block.specs.Form.{block_bytes};
 ghost use Rattle.hudi_cli.specs.Content.{AreSized, IsCommit, ReadsLog, block_of};
-ghost use Rattle.hudi_cli.specs.LogReading.{IsBlockOf, BeginsWith, BeginsWithNone};
+ghost use Rattle.hudi_cli.specs.LogReading.{IsTaken, BeginsWith, BeginsWithNone};
 
-use crate::commit::Commit;
-use crate::content::{ContentError, content_bytes, rows_of_content};
+use crate::content::{ContentError, content_bytes};
 use crate::script::InputRow;
 use hudi_base::{Bytes, InstantTime, Sequence};
 use log_block::{Block, BlockRead, read_block, write_block};
@@ -14,11 +13,18 @@ use std::alloc::{AllocError, Global};
 // The text in the place of a schema.
 const SCHEMA: &[u8] = b"r1";
 
-/// What reading a log came to: the commits whose blocks it is, in order; or that it isn't whole blocks of commits;
-/// or want of memory.
+/// A block of the log whose content isn't read yet.
+#[derive(Drop)]
+pub struct LogBlock {
+    pub instant: InstantTime,
+    pub content: Bytes,
+}
+
+/// What reading a log came to: the blocks that it is, in order; or that it isn't whole blocks of commits; or want of
+/// memory.
 #[derive(Drop)]
 pub enum LogRead {
-    Commits(Sequence<Commit>),
+    Blocks(Sequence<LogBlock>),
     Bad,
     Memory,
 }
@@ -45,9 +51,9 @@ pub fn commit_bytes(
     }
 }
 
-// The commit whose block it is.
-fn commit_of(alloc: Global, block: &Block) -> Result<Commit, ContentError>
-    ensures { IsBlockOf block.now result }
+// What a block of the log holds, without a copy of it. Other blocks are none of this log.
+fn log_block(block: Block) -> Option<LogBlock>
+    ensures { IsTaken block result }
 {
     let Block::Data {
         instant,
@@ -55,46 +61,42 @@ fn commit_of(alloc: Global, block: &Block) -> Result<Commit, ContentError>
         content,
     } = block
     else {
-        return Err(ContentError::Bad);
+        return None;
     };
     if schema.as_slice() != SCHEMA {
-        return Err(ContentError::Bad);
+        return None;
     }
-    let rows = rows_of_content(alloc, content.as_slice())?;
-    Ok(Commit {
-        instant: *instant,
-        rows,
-    })
+    Some(LogBlock { instant, content })
 }
 
-// The commit whose block the bytes begin with, of which there is at least one, and the bytes behind the block.
+// The block that the bytes begin with, of which there is at least one, and the bytes behind it.
 #[tactic(auto, using(crate::proofs::LogParts::fronts))]
-fn commit_at(alloc: Global, bytes: &[u8]) -> Result<(Commit, &[u8]), ContentError>
+fn block_at(alloc: Global, bytes: &[u8]) -> Result<(LogBlock, &[u8]), ContentError>
     requires { 0 < length bytes.now }
     ensures found { IfOk result (λ x. BeginsWith bytes.now x.0 x.1.now) }
     ensures none { IfErr result (λ error. BeginsWithNone bytes.now error) }
 {
     match read_block(alloc, bytes) {
-        BlockRead::Whole(block, len) => {
-            let commit = commit_of(alloc, &block)?;
-            Ok((commit, &bytes[len..]))
-        }
+        BlockRead::Whole(block, len) => match log_block(block) {
+            Some(block) => Ok((block, &bytes[len..])),
+            None => Err(ContentError::Bad),
+        },
         BlockRead::Torn | BlockRead::Bad(_) => Err(ContentError::Bad),
         BlockRead::Memory => Err(ContentError::Memory),
     }
 }
 
-/// The commits whose log the bytes are.
+/// The blocks that the bytes are. What they hold isn't looked at.
 #[tactic(auto, using(crate::proofs::LogParts::logs))]
 pub fn read_log(alloc: Global, bytes: &[u8]) -> LogRead
     ensures { ReadsLog result bytes.now }
 {
-    let mut commits = Sequence::new(alloc);
+    let mut found = Sequence::new(alloc);
     let mut rest = bytes;
     while !rest.is_empty() {
-        match commit_at(alloc, rest) {
-            Ok((commit, after)) => {
-                if commits.push(commit).is_err() {
+        match block_at(alloc, rest) {
+            Ok((block, after)) => {
+                if found.push(block).is_err() {
                     return LogRead::Memory;
                 }
                 rest = after;
@@ -103,7 +105,7 @@ pub fn read_log(alloc: Global, bytes: &[u8]) -> LogRead
             Err(ContentError::Memory) => return LogRead::Memory,
         }
     }
-    LogRead::Commits(commits)
+    LogRead::Blocks(found)
 }
 
 #[cfg(test)]

@@ -8,6 +8,7 @@ mod lines;
 mod log;
 mod output;
 mod outside;
+mod print;
 mod script;
 mod snapshot;
 mod solo;

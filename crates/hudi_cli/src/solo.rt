@@ -1,17 +1,13 @@
 // A script that is run in one lane.
-ghost use Rattle.std.specs.Prelude.{◌≡◌, ◌⊎◌, ◌≤◌, ◌≤ℤ◌, [], All};
-ghost use Rattle.hudi_cli.specs.Content.{log_name};
-ghost use Rattle.hudi_cli.specs.Output.{IsPrintable, output_text};
+ghost use Rattle.std.specs.Prelude.{◌≡◌, ◌⊎◌};
 ghost use Rattle.hudi_cli.specs.Run.{AreSizedUpserts, Leaves};
-ghost use Rattle.hudi_cli.specs.Steps.{IsFresh, Prints, PrintsText};
+ghost use Rattle.hudi_cli.specs.Steps.{IsFresh};
 ghost use Rattle.hudi_cli.specs.Verdict.{Ends, IsKept, IsSmooth, Means, Ran, moment};
 ghost use Rattle.hudi_cli.specs.declared.verdict.Verdict.{Verdict};
 
-use crate::commit::Outcome;
 use crate::input::{Input, read_all};
+use crate::print::print;
 use crate::script::{Script, ScriptError, read_script};
-use crate::snapshot::{Shown, Snapshot, make_snapshot};
-use crate::text::output_text;
 use crate::upserts::{Upserted, upsert_all};
 use crate::verdict::{Verdict, tell};
 use crate::words::is_run_solo;
@@ -130,44 +126,6 @@ fn run_fresh<S: Store, C: Clock>(
         Upserted::All => print(alloc, script, outcomes.as_slice(), &name, store),
         Upserted::Failed => Verdict::StoreFailed,
         Upserted::Memory => Verdict::OutOfMemory,
-    }
-}
-
-// Makes the snapshot after upserts that all ran, and prints it behind them.
-fn print<S: Store>(
-    alloc: Global,
-    script: &Script,
-    outcomes: &[Outcome],
-    name: &Name,
-    store: &mut S,
-) -> Verdict
-    requires name { name.now ≡ log_name }
-    ensures prints { Prints result script.now outcomes.now (S.told store.old) (S.fault_count store.old) (S.fault_count store.new) }
-    ensures same { S.told store.new ≡ S.told store.old }
-    ensures count { S.fault_count store.old ≤ S.fault_count store.new }
-{
-    match make_snapshot(alloc, name, store, outcomes) {
-        Shown::Snapshot(snapshot) => print_all(alloc, script, outcomes, &snapshot),
-        Shown::Bad => Verdict::BadTable,
-        Shown::Failed => Verdict::StoreFailed,
-        Shown::Memory => Verdict::OutOfMemory,
-    }
-}
-
-// Prints outcomes and a snapshot.
-fn print_all(alloc: Global, script: &Script, outcomes: &[Outcome], snapshot: &Snapshot) -> Verdict
-    requires { All IsPrintable snapshot.now.rows }
-    ensures { PrintsText result (output_text script.now outcomes.now snapshot.now.time snapshot.now.rows) }
-{
-    match output_text(
-        alloc,
-        script,
-        outcomes,
-        snapshot.time,
-        snapshot.rows.as_slice(),
-    ) {
-        Ok(text) => Verdict::Done(text),
-        Err(_) => Verdict::OutOfMemory,
     }
 }
 

@@ -7,13 +7,13 @@ ghost use Rattle.serde_json.specs.Find.{of_integer};
 ghost use Rattle.serde_json.specs.View.{items_of};
 ghost use Rattle.serde_json.specs.Written.{outline, number_text};
 ghost use Rattle.hudi_base.specs.InstantTime.{time_text};
-ghost use Rattle.hudi_cli.specs.Output.{row_data, rows_text, IsPrintable, seqno, time_or_none, upsert_text, upserts_text, snapshot_text, output_text};
+ghost use Rattle.hudi_cli.specs.Output.{row_data, row_shown, rows_text, IsPrintable, seqno, time_or_none, upsert_text, upserts_text, snapshot_text, output_text};
 
 use crate::commit::Outcome;
 use crate::script::{Script, UpsertLine};
 use hudi_base::{Bytes, InstantTime};
 use json::Writer;
-use payload_merge::Row;
+use payload_merge::LentRow;
 use std::alloc::{AllocError, Global};
 use std::fmt::Write;
 
@@ -49,8 +49,8 @@ fn push_time_or_none(out: &mut String, time: Option<InstantTime>) -> Result<(), 
 }
 
 // Where a row was written.
-fn seqno(alloc: Global, row: &Row) -> Result<String, AllocError>
-    ensures { IfOk result (λ text. string_bytes text ≡ seqno row.now) }
+fn seqno(alloc: Global, row: &LentRow<'_>) -> Result<String, AllocError>
+    ensures { IfOk result (λ text. string_bytes text ≡ seqno (row_shown row.now)) }
 {
     let mut text = String::with_capacity(alloc, MOST_SEQNO_BYTES)?;
     push_time(&mut text, row.commit)?;
@@ -69,7 +69,7 @@ fn write_text(out: &mut Writer, name: &str, text: &str) -> Result<(), AllocError
 }
 
 // Writes the member that is the rank of a row.
-fn write_rank(out: &mut Writer, row: &Row) -> Result<(), AllocError>
+fn write_rank(out: &mut Writer, row: &LentRow<'_>) -> Result<(), AllocError>
     ensures tokens { OnOk result (out.new.tokens ≡ out.old.tokens ++ key (codes "rank") ∷ number (number_text (of_integer row.now.rank)) ∷ []) }
     ensures before { out.new.before ≡ out.old.before }
 {
@@ -79,26 +79,26 @@ fn write_rank(out: &mut Writer, row: &Row) -> Result<(), AllocError>
 }
 
 // Writes a row as a JSON object.
-fn write_row(alloc: Global, out: &mut Writer, row: &Row) -> Result<(), AllocError>
-    requires { IsPrintable row.now }
-    ensures tokens { OnOk result (out.new.tokens ≡ out.old.tokens ++ json_tokens (outline (row_data row.now))) }
+fn write_row(alloc: Global, out: &mut Writer, row: &LentRow<'_>) -> Result<(), AllocError>
+    requires { IsPrintable (row_shown row.now) }
+    ensures tokens { OnOk result (out.new.tokens ≡ out.old.tokens ++ json_tokens (outline (row_data (row_shown row.now)))) }
     ensures before { out.new.before ≡ out.old.before }
 {
     let seqno = seqno(alloc, row)?;
     out.begin_object()?;
     write_text(out, "_hoodie_commit_seqno", seqno.as_str())?;
     write_text(out, "_hoodie_commit_time", text_of(&row.commit.text()))?;
-    write_text(out, "body", text_of(row.body.as_slice()))?;
-    write_text(out, "key", text_of(row.key.as_slice()))?;
+    write_text(out, "body", text_of(row.body))?;
+    write_text(out, "key", text_of(row.key))?;
     write_rank(out, row)?;
     out.end_object()
 }
 
 // Writes rows as a JSON array.
 #[tactic(auto, using(crate::proofs::TextParts::rows_steps))]
-fn write_rows(alloc: Global, out: &mut Writer, rows: &[Row]) -> Result<(), AllocError>
-    requires { All IsPrintable rows.now }
-    ensures tokens { OnOk result (out.new.tokens ≡ out.old.tokens ++ json_tokens (outline (array (items_of (map row_data rows.now))))) }
+fn write_rows(alloc: Global, out: &mut Writer, rows: &[LentRow<'_>]) -> Result<(), AllocError>
+    requires { All (λ row. IsPrintable (row_shown row)) rows.now }
+    ensures tokens { OnOk result (out.new.tokens ≡ out.old.tokens ++ json_tokens (outline (array (items_of (map row_data (map row_shown rows.now)))))) }
     ensures before { out.new.before ≡ out.old.before }
 {
     out.begin_array()?;
@@ -110,9 +110,9 @@ fn write_rows(alloc: Global, out: &mut Writer, rows: &[Row]) -> Result<(), Alloc
 
 // The rows behind what stands before them, as a JSON array with no space.
 #[tactic(auto, using(crate::proofs::TextParts::rows_steps))]
-fn with_rows(alloc: Global, out: Vec<u8>, rows: &[Row]) -> Result<Vec<u8>, AllocError>
-    requires { All IsPrintable rows.now }
-    ensures { IfOk result (λ text. text.items ≡ out.items ++ rows_text rows.now) }
+fn with_rows(alloc: Global, out: Vec<u8>, rows: &[LentRow<'_>]) -> Result<Vec<u8>, AllocError>
+    requires { All (λ row. IsPrintable (row_shown row)) rows.now }
+    ensures { IfOk result (λ text. text.items ≡ out.items ++ rows_text (map row_shown rows.now)) }
 {
     let mut writer = Writer::new(out);
     write_rows(alloc, &mut writer, rows)?;
@@ -160,10 +160,10 @@ fn with_snapshot(
     mut out: String,
     line: u32,
     time: Option<InstantTime>,
-    rows: &[Row],
+    rows: &[LentRow<'_>],
 ) -> Result<Vec<u8>, AllocError>
-    requires { All IsPrintable rows.now }
-    ensures { IfOk result (λ text. text.items ≡ string_bytes out ++ snapshot_text line time rows.now) }
+    requires { All (λ row. IsPrintable (row_shown row)) rows.now }
+    ensures { IfOk result (λ text. text.items ≡ string_bytes out ++ snapshot_text line time (map row_shown rows.now)) }
 {
     write!(out, "{line} snapshot rows ")?;
     push_time_or_none(&mut out, time)?;
@@ -179,10 +179,10 @@ pub fn output_text(
     script: &Script,
     outcomes: &[Outcome],
     time: Option<InstantTime>,
-    rows: &[Row],
+    rows: &[LentRow<'_>],
 ) -> Result<Bytes, AllocError>
-    requires { All IsPrintable rows.now }
-    ensures { IfOk result (λ text. text ≡ output_text script.now outcomes.now time rows.now) }
+    requires { All (λ row. IsPrintable (row_shown row)) rows.now }
+    ensures { IfOk result (λ text. text ≡ output_text script.now outcomes.now time (map row_shown rows.now)) }
 {
     let mut out = String::new(alloc);
     push_upserts(&mut out, script.upserts.as_slice(), outcomes)?;

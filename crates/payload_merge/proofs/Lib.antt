@@ -1,5 +1,9 @@
 pub mod Batches
+pub mod InOrder
 pub mod Keyed
+pub mod Filters
+pub mod Folds
+pub mod Heads
 pub mod KeptRows
 pub mod Keys
 pub mod Payloads

@@ -1,4 +1,5 @@
 pub mod Fold
 pub mod Kept
+pub mod LentRows
 pub mod Laws
 pub mod Payload

@@ -105,3 +105,51 @@ fn folds_rows_in_the_order_of_their_keys(rt: HostRuntime) -> Result<(), Fail> {
     assert_eq!(rt; bodies.as_slice(), LEFT.as_slice());
     Ok(())
 }
+
+// Key, rank and body of rows as they are put.
+const LENT: [(&[u8], i64, &[u8]); 9] = [
+    (b"12345678b", 1, b"0"),
+    (b"a\0", 1, b"1"),
+    (b"12345678a", 1, b"2"),
+    (b"a", 1, b"3"),
+    (b"a\0", 0, b"4"),
+    (b"a", 1, b"5"),
+    (b"", LAST, b"6"),
+    (b"12345678a", 2, b"7"),
+    (b"", FIRST, b"8"),
+];
+
+// The places of those that are left, in the order of their keys: none, two that begin with the same eight bytes, "a",
+// and "a" with a zero behind it.
+const LENT_LEFT: [usize; 5] = [6, 7, 0, 5, 1];
+
+#[test]
+fn folds_lent_rows(rt: HostRuntime) -> Result<(), Fail> {
+    let mut puts = Vec::new(rt.alloc());
+    for (key, rank, body) in LENT {
+        let row = LentRow {
+            key,
+            rank,
+            commit: InstantTime::FIRST,
+            seq: 7,
+            body,
+        };
+        assert!(rt; puts.push(row).is_ok());
+    }
+    let Ok(rows) = fold_puts(rt.alloc(), &puts) else {
+        panic!(rt; "out of memory");
+    };
+    assert_eq!(rt; rows.len(), LENT_LEFT.len());
+    for index in 0..LENT_LEFT.len() {
+        let place = LENT_LEFT[index];
+        assert!(rt; place < LENT.len());
+        assert!(rt; index < rows.len());
+        let (key, rank, body) = LENT[place];
+        let row = &rows[index];
+        assert_eq!(rt; row.key, key);
+        assert_eq!(rt; row.rank, rank);
+        assert_eq!(rt; row.seq, 7);
+        assert_eq!(rt; row.body, body);
+    }
+    Ok(())
+}

@@ -2,6 +2,7 @@ ghost use Rattle.std.specs.Prelude.{IfOk};
 ghost use Rattle.hudi_cli.specs.Content.{AreSized};
 
 use super::*;
+use hudi_base::Name;
 use std::test::Fail;
 
 fn one_row(alloc: Global, rank: i64) -> Result<Vec<InputRow>, AllocError>
@@ -44,7 +45,7 @@ fn ranks_are_written_and_read(rt: HostRuntime) -> Result<(), Fail> {
         assert_eq!(rt; content_bytes(alloc, &rows)?.as_slice(), content);
         let found = rows_of_content(alloc, content)?;
         assert_eq!(rt; found.len(), 1);
-        assert_eq!(rt; found.at(0).rank, rank);
+        assert_eq!(rt; found[0].rank, rank);
     }
     Ok(())
 }

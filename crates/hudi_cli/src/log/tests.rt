@@ -2,6 +2,7 @@ ghost use Rattle.std.specs.Prelude.{IfOk};
 ghost use Rattle.hudi_cli.specs.Content.{IsSized};
 
 use super::*;
+use crate::content::rows_of_content;
 use crate::worked_commits::COMMITS;
 use hudi_base::Name;
 use std::process::Abort;
@@ -43,17 +44,18 @@ fn commits_are_written_and_read(rt: HostRuntime) -> Result<(), Fail> {
         assert_eq!(rt; written(&rt, alloc, ms, first, second)?.as_slice(), block);
         log.extend_from_slice(block)?;
     }
-    let LogRead::Commits(commits) = read_log(alloc, &log) else {
-        panic!(rt; "no commits");
+    let LogRead::Blocks(blocks) = read_log(alloc, &log) else {
+        panic!(rt; "no blocks");
     };
-    assert_eq!(rt; commits.len(), 2);
-    for (commit, (ms, rows, _)) in commits.as_slice().iter().zip(COMMITS) {
-        assert_eq!(rt; commit.instant.ms(), ms);
-        assert_eq!(rt; commit.rows.len(), 2);
-        for (row, (key, rank, body)) in commit.rows.as_slice().iter().zip(rows) {
-            assert_eq!(rt; row.key.as_str(), key);
+    assert_eq!(rt; blocks.len(), 2);
+    for (block, (ms, rows, _)) in blocks.as_slice().iter().zip(COMMITS) {
+        assert_eq!(rt; block.instant.ms(), ms);
+        let found = rows_of_content(alloc, block.content.as_slice())?;
+        assert_eq!(rt; found.len(), 2);
+        for (row, (key, rank, body)) in found.iter().zip(rows) {
+            assert_eq!(rt; row.key, key);
             assert_eq!(rt; row.rank, rank);
-            assert_eq!(rt; row.body.as_str(), body);
+            assert_eq!(rt; row.body, body);
         }
     }
     Ok(())
@@ -62,7 +64,7 @@ fn commits_are_written_and_read(rt: HostRuntime) -> Result<(), Fail> {
 #[test]
 fn other_bytes_are_no_log(rt: HostRuntime) -> Result<(), Fail> {
     let alloc = rt.alloc();
-    assert!(rt; matches!(&read_log(alloc, b""), LogRead::Commits(_)));
+    assert!(rt; matches!(&read_log(alloc, b""), LogRead::Blocks(_)));
     for (_, _, block) in COMMITS {
         assert!(rt; matches!(&read_log(alloc, &block[..100]), LogRead::Bad));
         let mut other = block.to_vec(alloc)?;

@@ -1,16 +1,16 @@
 use Rattle.std.proofs.Common.{◌≡◌, ◌<◌, [], ◌∷◌, ◌++◌, length, subst, arith}
 use Rattle.std.proofs.lemmas.Grind.{common_steps}
 use Rattle.hudi_cli.specs.LogReading.{BeginsWithNone}
-use Rattle.hudi_cli.proofs.LogParts.{log_more, commits_more, log_stop}
+use Rattle.hudi_cli.proofs.LogParts.{log_more, blocks_more, log_stop}
 use Rattle.hudi_cli.proofs.log.read_log.Goals as goal
 
 pub loop-rest-preserved : goal.loop-rest-preserved
 loop-rest-preserved c =
-    let pushed : c.push.new.self ≡ c.loop-rest.commits ++ c.in-Ok.commit ∷ [] = grind (arith, common_steps) in
+    let pushed : c.push.new.self ≡ c.loop-rest.found ++ c.in-Ok.block ∷ [] = grind (arith, common_steps) in
     let so_far = c.loop-rest.invariant in
     record {
-      are = rw pushed (commits_more c.loop-rest.commits _ c.in-Ok.commit _ so_far.are c.in-Ok.ensures.found);
-      parts = rw pushed (log_more _ c.loop-rest.commits _ c.in-Ok.commit _ so_far.parts c.in-Ok.ensures.found);
+      are = rw pushed (blocks_more c.loop-rest.found _ c.in-Ok.block _ so_far.are c.in-Ok.ensures.found);
+      parts = rw pushed (log_more _ c.loop-rest.found _ c.in-Ok.block _ so_far.parts c.in-Ok.ensures.found);
     }
 
 pub returns-in-Err-Bad : goal.returns-in-Err-Bad

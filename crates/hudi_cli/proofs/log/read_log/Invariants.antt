@@ -1,13 +1,13 @@
 use Rattle.std.proofs.Common.{◌≡◌, ◌++◌, length}
 use Rattle.std.specs.List.{AllByRecursion}
-use Rattle.hudi_cli.specs.Content.{IsCommit, log_bytes}
+use Rattle.hudi_cli.specs.Content.{IsLogBlock, blocks_bytes}
 use Rattle.hudi_cli.proofs.log.read_log.Given as goal
 
--- the commits so far, and the bytes behind their blocks
+-- the blocks so far, and the bytes behind them
 abbrev pub invariant-loop-rest : goal.invariant-loop-rest
 invariant-loop-rest l = record {
-  are : AllByRecursion IsCommit l.commits;
-  parts : l.bytes ≡ log_bytes l.commits ++ l.rest;
+  are : AllByRecursion IsLogBlock l.found;
+  parts : l.bytes ≡ blocks_bytes l.found ++ l.rest;
 }
 
 abbrev pub decreases-loop-rest : goal.decreases-loop-rest

@@ -1,15 +1,15 @@
 use Rattle.std.proofs.Common.{◌≡◌, ℕ, ◌<◌, ◌-◌, ◌^◌, List, length, inr, arith}
-use Rattle.hudi_cli.specs.Content.{log_bytes, log_name}
+use Rattle.hudi_cli.specs.Content.{blocks_bytes, log_name}
 use Rattle.hudi_cli.specs.Steps.{IsNoLog}
 use Rattle.hudi_cli.proofs.RunParts.{Has-whole}
 use Rattle.hudi_cli.proofs.snapshot.read_back.Goals as goal
 
-pub returns-in-Commits-clause-found : goal.returns-in-Commits-clause-found
-returns-in-Commits-clause-found g c =
+pub returns-in-Blocks-clause-found : goal.returns-in-Blocks-clause-found
+returns-in-Blocks-clause-found g c =
     let fetched = rw c.requires.name at c.in-Piece.ensures.answer in
-    let log = rw c.as_slice.ensures at c.in-Commits.ensures in
+    let log = rw c.as_slice.ensures at c.in-Blocks.ensures in
     let short : length c.as_slice.result.now < 2 ^ 64 - 1 = omega (arith, c.as_slice.type_inv) in
-    (log.0, Has-whole (g.S.Store.told c.args.store.now) log_name c.in-Piece.bytes _ (λ (bytes : List ℕ). bytes ≡ log_bytes c.in-Commits.commits) fetched (rw c.as_slice.ensures at short) log.1)
+    (log.0, Has-whole (g.S.Store.told c.args.store.now) log_name c.in-Piece.bytes _ (λ (bytes : List ℕ). bytes ≡ blocks_bytes c.in-Blocks.blocks) fetched (rw c.as_slice.ensures at short) log.1)
 
 pub returns-in-Bad-clause-found : goal.returns-in-Bad-clause-found
 returns-in-Bad-clause-found g c =
