@@ -1,6 +1,8 @@
 // A script that is run in one lane.
-ghost use Rattle.std.specs.Prelude.{◌≡◌, ◌⊎◌};
+ghost use Rattle.std.specs.Prelude.{◌≡◌, ◌⊎◌, ◌≤◌, length};
+ghost use Rattle.std.specs.Str.Lines.{lines};
 ghost use Rattle.hudi_cli.specs.Run.{AreSizedUpserts, Leaves};
+ghost use Rattle.hudi_cli.specs.Script.{Reads, most_script_bytes, script_of};
 ghost use Rattle.hudi_cli.specs.Steps.{IsFresh};
 ghost use Rattle.hudi_cli.specs.Verdict.{Ends, IsKept, IsSmooth, Means, Ran, moment};
 ghost use Rattle.hudi_cli.specs.declared.verdict.Verdict.{Verdict};
@@ -11,7 +13,7 @@ use crate::script::{Script, ScriptError, read_script};
 use crate::upserts::{Upserted, upsert_all};
 use crate::verdict::{Verdict, tell};
 use crate::words::is_run_solo;
-use hudi_base::{Clock, Listed, Name, Sequence, Sink, Source, Store};
+use hudi_base::{Bytes, Clock, Listed, Name, Sequence, Sink, Source, Store};
 use std::alloc::Global;
 
 // The one log file: file group `r1` of partition `x`, whose base instant is the first.
@@ -61,7 +63,7 @@ fn decide<S: Store, C: Clock, R: Source>(
         return Verdict::BadWords;
     }
     match read_all(alloc, input) {
-        Input::Whole(bytes) => match read_script(alloc, bytes.as_slice()) {
+        Input::Whole(bytes) => match script_of(alloc, bytes) {
             Ok(script) => run_script(alloc, &script, store, clock),
             Err(ScriptError::BadLine(number)) => Verdict::BadLine(number),
             Err(ScriptError::Memory) => Verdict::OutOfMemory,
@@ -70,6 +72,14 @@ fn decide<S: Store, C: Clock, R: Source>(
         Input::Failed => Verdict::InputFailed,
         Input::Memory => Verdict::OutOfMemory,
     }
+}
+
+// The script that the input is. The bytes go before the script runs.
+fn script_of(alloc: Global, bytes: Bytes) -> Result<Script, ScriptError>
+    requires { length bytes ≤ most_script_bytes }
+    ensures { Reads result (script_of 1 (lines bytes)) }
+{
+    read_script(alloc, bytes.as_slice())
 }
 
 // Runs a script, if the store has no file.
