@@ -51,27 +51,26 @@ SQL
     echo "select json_object('body', body, 'key', key, 'rank', rank) from rows order by key;"
 }
 
-# The better of two runs, each a time and a memory.
-best() {
-    printf '%s\n' "$1" "$2" | sort -n | head -n 1
+# The run in the middle of five, each a time and a memory.
+median() {
+    sort -n "$1" | sed -n 3p
 }
 
-# Runs both on a load of so many lines, in turn, three times. It leaves their best runs in `ours` and `peers`.
+# Runs both on a load of so many lines, in turn, five times. It leaves their median runs in `ours` and `peers`: on a
+# machine that others share, the best of a few runs is now and then far below the others.
 run_both() {
     load=$work/$1
     mkdir "$load"
     python3 "$bench/upserts.py" "$1" "$rows_a_line" >"$load/script"
     head -n "$1" "$load/script" | (cd "$load" && split -l 1 -a 3 - line.)
     peer_script "$load" >"$load/peer"
-    ours='999999 0'
-    peers='999999 0'
-    for _ in 1 2 3; do
+    for _ in 1 2 3 4 5; do
         rm -rf "$load/table" "$load/db"
-        run=$(python3 "$bench/measure.py" "$load/script" "$load/ours" "$program" "$load/table" run 1)
-        ours=$(best "$ours" "$run")
-        run=$(python3 "$bench/measure.py" "$load/peer" "$load/peers" sqlite3 -bail "$load/db")
-        peers=$(best "$peers" "$run")
+        python3 "$bench/measure.py" "$load/script" "$load/ours" "$program" "$load/table" run 1 >>"$load/our_runs"
+        python3 "$bench/measure.py" "$load/peer" "$load/peers" sqlite3 -bail "$load/db" >>"$load/peer_runs"
     done
+    ours=$(median "$load/our_runs")
+    peers=$(median "$load/peer_runs")
     same=$(python3 "$bench/same_rows.py" "$load/ours" "$load/peers")
     printf '%s rows: %s\n' "$(($1 * rows_a_line))" "$same"
     tell program "$ours"
