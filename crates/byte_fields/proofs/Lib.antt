@@ -1,0 +1,4 @@
+pub mod ReadingLemmas
+pub mod NumberLemmas
+pub mod VarintLemmas
+pub mod PrefixedLemmas

@@ -1,0 +1,4 @@
+pub mod Decimals
+pub mod JsonObjects
+pub mod NameForms
+pub mod Pieces
