@@ -2,3 +2,4 @@ pub mod CalendarLemmas
 pub mod CivilLemmas
 pub mod DigitsLemmas
 pub mod Times
+pub mod TimeTexts

@@ -49,7 +49,7 @@ abbrev pub IsReplay : Told → Type 0
 IsReplay told = IfSome told.files (λ files. IfSome told.operations (λ operations. IfSome told.first (λ first. files ≡ changed_all first operations)))
 
 -- What a stop within an operation leaves: the files before it or after it, and of an append also the file with any
--- front of the bytes, made or not where that front is empty.
+-- prefix of the bytes, made or not where that prefix is empty.
 abbrev pub IsWithin : FileMap → Operation → FileMap → Type 0
 IsWithin files (Create name bytes) image = (image ≡ files) ⊎ (image ≡ changed files (Create name bytes))
 IsWithin files (Append name bytes) image = (image ≡ files) ⊎ ((n : ℕ) × (image ≡ changed files (Append name (take n bytes))))

@@ -1,9 +1,9 @@
 -- The times of instants: from 2000 to 9999, to the millisecond, written as yyyyMMddHHmmssSSS in UTC. That they are
 -- in UTC, and the range, are this project's own.
-use Rattle.std.specs.Prelude.{ℕ, ◌+◌, ◌-◌, ◌*◌, ◌/◌, ◌%◌, ◌≤◌, ◌==◌, ◌&&◌, ◌||◌, nat_le, nat_lt, not, Bool, if◌then◌else◌, min, max, ℤ, pos, negsuc, List, [], ◌∷◌, ◌++◌, length, take, drop, Option, Some, None, position}
+use Rattle.std.specs.Prelude.{ℕ, ◌+◌, ◌-◌, ◌*◌, ◌/◌, ◌%◌, ◌≤◌, ◌==◌, ◌&&◌, ◌||◌, nat_le, nat_lt, not, Bool, if◌then◌else◌, min, max, ℤ, pos, negsuc, List, [], ◌∷◌, ◌++◌, length, take, drop, Option, Some, None, is_none, position}
 use Rattle.std.specs.Option.{option_or}
 use Rattle.jiff_core.specs.Calendar.{days_in_month}
-use Rattle.hudi_base.specs.Calendar.{Civil, civil_of}
+use Rattle.hudi_base.specs.Calendar.{Civil, civil_of, civil_ms}
 
 -- 20000101000000000
 abbrev pub first_time : ℕ
@@ -60,7 +60,7 @@ abbrev pub digits_value : ℕ → List ℕ → ℕ
 digits_value before [] = before
 digits_value before (byte ∷ bytes) = digits_value (before * 10 + (byte - 48)) bytes
 
--- the number that stands at a place
+-- the number that stands at an offset
 abbrev pub field : ℕ → ℕ → List ℕ → ℕ
 field at len text = digits_value 0 (take len (drop at text))
 
@@ -76,7 +76,7 @@ civil_at text = record {
   milli = field 14 3 text;
 }
 
--- the place of the first field that is out of its range
+-- the offset of the first field that is out of its range
 abbrev pub field_out_of_range : Civil → Option ℕ
 field_out_of_range c =
     if nat_lt c.year 2000 then Some 0
@@ -94,3 +94,7 @@ digits_go_wrong text = if length text == 17 then field_out_of_range (civil_at te
 -- The first byte that is no digit comes before all else, wherever it stands.
 abbrev pub goes_wrong : List ℕ → Option ℕ
 goes_wrong text = option_or (position (λ byte. not (is_digit byte)) text) (digits_go_wrong text)
+
+-- the time whose text it is
+unfoldable pub time_of : List ℕ → Option ℕ
+time_of text = if is_none (goes_wrong text) then Some (civil_ms (civil_at text)) else None

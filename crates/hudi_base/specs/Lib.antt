@@ -1,4 +1,5 @@
 pub mod Calendar
+pub mod Clock
 pub mod Faults
 pub mod Files
 pub mod InstantTime

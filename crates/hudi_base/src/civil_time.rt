@@ -104,7 +104,7 @@ impl CivilTime {
         }
     }
 
-    // Where the first field stands that is out of its range.
+    // The offset of the first field that is out of its range.
     pub(crate) fn out_of_range(&self) -> Option<usize>
         ensures { result ≡ field_out_of_range self.now }
     {

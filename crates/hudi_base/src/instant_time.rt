@@ -1,9 +1,6 @@
 // The times that instants have.
 ghost use Rattle.std.specs.Prelude.{IsUtf8, ◌≡◌, ◌<◌, ◌≤◌, Some, None, SomeIff, MatchResult, not, position};
-ghost use Rattle.hudi_base.specs.InstantTime.{IsTime, last_time, time_after, time_text, is_digit, goes_wrong};
-
-#[cfg(test)]
-mod tests;
+ghost use Rattle.hudi_base.specs.InstantTime.{IsTime, last_time, time_after, time_text, is_digit, goes_wrong, time_of};
 
 use crate::civil_time::CivilTime;
 use std::marker::Model;
@@ -32,8 +29,8 @@ impl Model for InstantTime {
 #[derive(Clone, Copy, Debug, PartialEq, Eq)]
 pub struct TimeOver;
 
-/// A text that isn't seventeen digits of a time goes wrong at this place: at the first byte that isn't a digit; else,
-/// where it isn't seventeen long, at its end or at 17, whichever comes first; else where the first field stands that
+/// The offset at which a text goes wrong that isn't seventeen digits of a time: that of the first byte that isn't a
+/// digit; else, where it isn't seventeen long, its length or 17, whichever is less; else that of the first field that
 /// is out of its range (year 0, month 4, day 6, hour 8, minute 10, second 12).
 #[derive(Clone, Copy, Debug, PartialEq, Eq)]
 pub struct BadTime(pub usize);
@@ -96,29 +93,36 @@ impl InstantTime {
         CivilTime::of_ms(self.since_1970).text()
     }
 
-    /// The time that seventeen digits write, or the place at which they go wrong.
+    /// The time that seventeen digits write, or the offset at which they go wrong.
     pub fn parse(text: &[u8]) -> Result<InstantTime, BadTime>
         ensures { MatchResult result
             (λ time. (goes_wrong text.now ≡ None) × (text.now ≡ time_text time))
             (λ bad. goes_wrong text.now ≡ Some bad.0) }
     {
-        if let Some(place) = first_no_digit(text) {
-            return Err(BadTime(place));
+        if let Some(offset) = first_no_digit(text) {
+            return Err(BadTime(offset));
         }
         if text.len() != 17 {
             return Err(BadTime(text.len().min(17)));
         }
         let civil = CivilTime::of_digits(text);
         match civil.out_of_range() {
-            Some(place) => Err(BadTime(place)),
+            Some(offset) => Err(BadTime(offset)),
             None => Ok(InstantTime {
                 since_1970: civil.ms(),
             }),
         }
     }
+
+    /// The time that seventeen digits write, if they write one.
+    pub fn from_text(text: &[u8]) -> Option<InstantTime>
+        ensures { result ≡ time_of text.now }
+    {
+        InstantTime::parse(text).ok()
+    }
 }
 
-// The place of the first byte that is no digit.
+// The offset of the first byte that is no digit.
 fn first_no_digit(text: &[u8]) -> Option<usize>
     ensures { result ≡ position (λ byte. not (is_digit byte)) text.now }
 {

@@ -70,12 +70,12 @@ impl<T> Sequence<T> {
         self.held.is_empty()
     }
 
-    /// The value at a place, from 0.
-    pub fn at(&self, place: usize) -> &T
-        requires { place < length self.now }
-        ensures { slice_get self.now place ≡ Some result.now }
+    /// The value at an index, from 0.
+    pub fn at(&self, index: usize) -> &T
+        requires { index < length self.now }
+        ensures { slice_get self.now index ≡ Some result.now }
     {
-        &self.held[place]
+        &self.held[index]
     }
 
     /// The values, in order.

@@ -1,8 +1,8 @@
 // The store of files.
-ghost use Rattle.std.specs.Prelude.{◌≡◌, ℕ, IfSome, length};
-ghost use Rattle.hudi_base.specs.Faults.{HasCause};
-ghost use Rattle.hudi_base.specs.Files.{IsReplay, Told};
-ghost use Rattle.hudi_base.specs.Store.{Lists, Fetches, Creates, Appends, Removes};
+ghost use Rattle.std.specs.Prelude.{◌≡◌, IfSome, length};
+ghost use Rattle.hudi_base.specs.Faults.{CountsFault};
+ghost use Rattle.hudi_base.specs.Files.{IsReplay};
+ghost use Rattle.hudi_base.specs.Store.{Appends, Creates, Fetches, Lists, Removes, StoreState};
 
 use crate::{Bytes, Name, Sequence};
 use std::alloc::Global;
@@ -60,61 +60,59 @@ pub enum Gone {
     Memory,
 }
 
-/// A store of named files. `Failed` comes only where the count of faults rose; `Memory` changes nothing.
+/// A store of named files. `Failed` comes only where the count of faults rose, by one; `Memory` changes nothing.
 ///
 /// It may tell its files, the operations that changed them and the files that it had before the first of these.
 /// It may be honest: then making and removing a file are atomic, a failure of either changed nothing, an append
-/// that failed leaves a front of its bytes, and what answered without failing stays.
+/// that failed leaves a prefix of its bytes, and what answered without failing stays.
 pub trait Store {
-    /// What it tells: its files, the operations done, the first files, each where it tells them.
-    ghost told: { Self → Told };
+    /// What is seen of it: its files, the operations done and the first files, each where it tells them, and its
+    /// count of faults, up to the greatest `u64`.
+    ghost state: { Self → StoreState };
 
     /// Whether it is honest.
     ghost is_honest: { Self → Type 0 };
 
-    /// How often it has failed, up to the greatest `u64`.
-    ghost fault_count: { Self → ℕ };
-
     /// The files and their sizes, in the order of their names.
     fn list(&mut self, alloc: Global) -> Listed
-        ensures answer { Lists (told self.old) result }
-        ensures same { told self.new ≡ told self.old }
+        ensures answer { Lists (state self.old).told result }
+        ensures same { (state self.new).told ≡ (state self.old).told }
         ensures honest { is_honest self.old → is_honest self.new }
-        ensures cause { HasCause (fault_count self.old) (fault_count self.new) (result ≡ Listed.Failed) };
+        ensures cause { CountsFault (state self.old).faults (state self.new).faults (result ≡ Listed.Failed) };
 
-    /// The bytes of a file from `at` on: `len` of them, or fewer where the file ends.
+    /// The bytes of a file from the offset `at` on: `len` of them, or fewer where the file ends.
     fn read(&mut self, alloc: Global, name: &Name, at: u64, len: u64) -> Fetched
-        ensures answer { Fetches (told self.old) name.now at len result }
-        ensures same { told self.new ≡ told self.old }
+        ensures answer { Fetches (state self.old).told name.now at len result }
+        ensures same { (state self.new).told ≡ (state self.old).told }
         ensures honest { is_honest self.old → is_honest self.new }
-        ensures cause { HasCause (fault_count self.old) (fault_count self.new) (result ≡ Fetched.Failed) };
+        ensures cause { CountsFault (state self.old).faults (state self.new).faults (result ≡ Fetched.Failed) };
 
     /// Makes a file with these bytes, at once and whole.
     fn create(&mut self, alloc: Global, name: &Name, bytes: &[u8]) -> Made
-        ensures answer { Creates (is_honest self.old) (told self.old) name.now bytes.now result (told self.new) }
+        ensures answer { Creates (is_honest self.old) (state self.old).told (state self.new).told name.now bytes.now result }
         ensures honest { is_honest self.old → is_honest self.new }
-        ensures cause { HasCause (fault_count self.old) (fault_count self.new) (result ≡ Made.Failed) };
+        ensures cause { CountsFault (state self.old).faults (state self.new).faults (result ≡ Made.Failed) };
 
     /// Adds bytes at the end of a file, and makes it where it is absent.
     fn append(&mut self, alloc: Global, name: &Name, bytes: &[u8]) -> Added
-        ensures answer { Appends (is_honest self.old) (told self.old) name.now bytes.now result (told self.new) }
+        ensures answer { Appends (is_honest self.old) (state self.old).told (state self.new).told name.now bytes.now result }
         ensures honest { is_honest self.old → is_honest self.new }
-        ensures cause { HasCause (fault_count self.old) (fault_count self.new) (result ≡ Added.Failed) };
+        ensures cause { CountsFault (state self.old).faults (state self.new).faults (result ≡ Added.Failed) };
 
     /// Removes a file.
     fn remove(&mut self, alloc: Global, name: &Name) -> Gone
-        ensures answer { Removes (is_honest self.old) (told self.old) name.now result (told self.new) }
+        ensures answer { Removes (is_honest self.old) (state self.old).told (state self.new).told name.now result }
         ensures honest { is_honest self.old → is_honest self.new }
-        ensures cause { HasCause (fault_count self.old) (fault_count self.new) (result ≡ Gone.Failed) };
+        ensures cause { CountsFault (state self.old).faults (state self.new).faults (result ≡ Gone.Failed) };
 
     /// How often it has failed. It takes no memory.
     fn faults(&self) -> u64
-        ensures { result ≡ fault_count self.now };
+        ensures { result ≡ (state self.now).faults };
 
     /// How many operations were done, where they are told. It takes no memory.
     fn done(&self) -> u64
-        ensures { IfSome (told self.now).operations (λ operations. result ≡ length operations) };
+        ensures { IfSome (state self.now).told.operations (λ operations. result ≡ length operations) };
 
     /// The operations, in order, make the files of the first files.
-    ghost replayed: { (store : Self) → IsReplay (told store) };
+    ghost replayed: { (store : Self) → IsReplay (state store).told };
 }

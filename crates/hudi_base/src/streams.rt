@@ -1,16 +1,16 @@
 // Bytes that come in, and bytes that go out.
-ghost use Rattle.std.specs.Prelude.{◌≡◌, ℕ, List, Option};
-ghost use Rattle.hudi_base.specs.Faults.{HasCause};
-ghost use Rattle.hudi_base.specs.Streams.{Takes, Sends};
+ghost use Rattle.std.specs.Prelude.{◌≡◌};
+ghost use Rattle.hudi_base.specs.Faults.{CountsFault};
+ghost use Rattle.hudi_base.specs.Streams.{SinkState, SourceState, Sends, Takes};
 
-/// What a read of a source gave: so many bytes, at the front of the buffer, or a failure.
+/// What a read of a source gave: so many bytes, at the beginning of the buffer, or a failure.
 #[derive(Clone, Copy, Debug, PartialEq, Eq)]
 pub enum Got {
     Took(usize),
     Failed,
 }
 
-/// What became of a write to a sink: so many bytes, from the front, were taken, or it failed.
+/// What became of a write to a sink: so many of the piece's first bytes were taken, or it failed.
 #[derive(Clone, Copy, Debug, PartialEq, Eq)]
 pub enum Sent {
     Took(usize),
@@ -19,29 +19,22 @@ pub enum Sent {
 
 /// Where bytes come from.
 pub trait Source {
-    /// The bytes that are left, where it tells them.
-    ghost left: { Self → Option (List ℕ) };
+    /// What is seen of it: the bytes that are left, where it tells them, and its count of faults.
+    ghost state: { Self → SourceState };
 
-    /// How often it has failed, up to the greatest `u64`.
-    ghost fault_count: { Self → ℕ };
-
-    /// Reads into the buffer. No byte for a buffer that isn't empty is the end. After a failure the same bytes
-    /// are left.
+    /// Reads into the buffer. No byte for a buffer that isn't empty is the end. A failure takes no byte.
     fn read(&mut self, buf: &mut [u8]) -> Got
-        ensures answer { Takes (left self.old) result buf.new (left self.new) }
-        ensures cause { HasCause (fault_count self.old) (fault_count self.new) (result ≡ Got.Failed) };
+        ensures answer { Takes (state self.old).left (state self.new).left result buf.new }
+        ensures cause { CountsFault (state self.old).faults (state self.new).faults (result ≡ Got.Failed) };
 }
 
 /// Where bytes go.
 pub trait Sink {
-    /// The bytes that were written, where it tells them.
-    ghost written: { Self → Option (List ℕ) };
+    /// What is seen of it: the bytes that were written, where it tells them, and its count of faults.
+    ghost state: { Self → SinkState };
 
-    /// How often it has failed, up to the greatest `u64`.
-    ghost fault_count: { Self → ℕ };
-
-    /// Writes bytes from the front of the piece, at least one where there is one. A failure writes none.
+    /// Writes the first bytes of the piece, at least one where there is one. A failure writes none.
     fn write(&mut self, bytes: &[u8]) -> Sent
-        ensures answer { Sends (written self.old) bytes.now result (written self.new) }
-        ensures cause { HasCause (fault_count self.old) (fault_count self.new) (result ≡ Sent.Failed) };
+        ensures answer { Sends (state self.old).written (state self.new).written result bytes.now }
+        ensures cause { CountsFault (state self.old).faults (state self.new).faults (result ≡ Sent.Failed) };
 }

@@ -1,33 +1,17 @@
 //! `hudi DIR run LANES`: runs a script of JSON lines over the table in a folder.
+//!
+//! It hands the folder, the standard streams and the system's clock to `hudi_run_solo` of `table_run`, whose contract
+//! says what a run does.
 #![tactic(auto)]
 
-mod commit;
-mod content;
-mod input;
-mod lines;
-mod log;
-mod output;
-mod outside;
-mod print;
-mod script;
-mod snapshot;
-mod solo;
-mod text;
-mod upserts;
-mod verdict;
-mod words;
-#[cfg(test)]
-mod worked_commits;
+ghost use Rattle.std.specs.Prelude.{◌≢◌, [], IfOk, string_bytes};
 
-use crate::outside::dir_store::DirStore;
-use crate::outside::standard_streams::{ReaderSource, WriterSink};
-use crate::outside::system_clock::SystemClock;
-use crate::solo::hudi_run_solo;
-use crate::verdict::OUT_OF_MEMORY;
-use std::alloc::AllocError;
+use std::alloc::{AllocError, Global};
 use std::env;
 use std::io::{self, ErrorKind};
 use std::process::ExitCode;
+use store_dir::{DirStore, StdinSource, StdoutSink, SystemClock};
+use table_run::{OUT_OF_MEMORY, hudi_run_solo};
 
 fn main(rt: HostRuntime) -> ExitCode {
     let alloc = rt.alloc();
@@ -40,22 +24,13 @@ fn main(rt: HostRuntime) -> ExitCode {
     let Ok(mut words) = words else {
         return ExitCode::from(OUT_OF_MEMORY);
     };
-    let folder = if words.is_empty() {
-        String::from_str(alloc, ".")
-    } else {
-        Ok(words.remove(0))
-    };
-    let Ok(folder) = folder else {
+    let Ok(folder) = take_folder(alloc, &mut words) else {
         return ExitCode::from(OUT_OF_MEMORY);
     };
-    // No folder is called so, and the files would lie at the root.
-    if folder.is_empty() {
-        words.clear();
-    }
     let store = DirStore::new(rt, folder);
     let clock = SystemClock::new(rt);
-    let mut input = ReaderSource::new(rt.reader());
-    let mut output = WriterSink::new(io::writer(&rt));
+    let mut input = StdinSource::new(rt.reader());
+    let mut output = StdoutSink::new(io::writer(&rt));
     let (status, _, _) = hudi_run_solo(
         alloc,
         words.as_slice(),
@@ -65,4 +40,18 @@ fn main(rt: HostRuntime) -> ExitCode {
         &mut output,
     );
     ExitCode::from(status)
+}
+
+// Takes the folder off the words; with none it is `.`. No folder has an empty name, so words behind one are none.
+fn take_folder(alloc: Global, words: &mut Vec<String>) -> Result<String, AllocError>
+    ensures { IfOk result (λ folder. string_bytes folder ≢ []) }
+{
+    if !words.is_empty() {
+        let folder = words.remove(0);
+        if !folder.is_empty() {
+            return Ok(folder);
+        }
+        words.clear();
+    }
+    String::from_str(alloc, ".")
 }

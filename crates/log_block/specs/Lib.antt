@@ -1,3 +1,4 @@
 pub mod Form
 pub mod Reading
-pub mod Fronts
+pub mod Answers
+pub mod Parts

@@ -27,23 +27,23 @@ pub enum Block {
     },
 }
 
-/// What stands at the front of bytes.
+/// What stands at the beginning of bytes.
 #[derive(Drop)]
 pub enum BlockRead {
     /// This block, in its one form of that many bytes. Other bytes may follow it.
     Whole(Block, usize),
     /// A block may begin here, and the bytes end within it.
     Torn,
-    /// No block stands here: the first field that is wrong begins at this place, counted from the first byte.
+    /// No block stands here: the first field that is wrong begins at this offset.
     Bad(usize),
-    /// A block stands here, and no memory was left to copy it.
+    /// A block stands here, and memory ran out while it was copied.
     Memory,
 }
 
 /// Why a block was not written.
 #[derive(Debug, Drop, Error)]
 pub enum BlockError {
-    /// No memory was left for the bytes, or the block has more of them than memory has.
+    /// Out of memory, or the block has more bytes than memory has.
     #[error("out of memory")]
     Memory,
 }

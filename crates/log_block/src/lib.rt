@@ -2,14 +2,12 @@
 //! block has one form.
 //!
 //! Its contract: what is written is that form, what is read whole is that form, and of any other bytes it is said
-//! whether the block is cut off or at which place it is bad. It stands on `hudi_base` for bytes and times and on
-//! `byteorder` for numbers.
+//! whether the block is cut off or at which offset it is bad. It stands on `hudi_base` for bytes and times, on
+//! `byte_fields` for fields, and on `byteorder` for the order of bytes.
 #![tactic(auto)]
 
 mod block;
-mod ends;
-mod fault;
-pub mod fields;
+mod format;
 mod header;
 mod laws;
 mod parts;
@@ -17,10 +15,6 @@ mod reading;
 mod writing;
 
 pub use block::{Block, BlockError, BlockRead};
-pub use fault::Fault;
 pub use laws::{cut_is_torn, later_bytes, one_form, when_torn, written_is_read};
 pub use reading::read_block;
 pub use writing::write_block;
-
-#[cfg(test)]
-mod tests;

@@ -1,20 +1,14 @@
 // Reading the parts of a block of each type.
-ghost use Rattle.std.specs.Prelude.{◌≡◌, length};
-ghost use Rattle.log_block.specs.Fronts.{Gives, block_of};
-ghost use Rattle.log_block.specs.Reading.{type_of, type_at, parts_at};
+ghost use Rattle.std.specs.Prelude.{◌≡◌, ◌+◌, ◌<◌, ◌^◌, length};
+ghost use Rattle.byte_fields.specs.Reading.{Gives};
+ghost use Rattle.log_block.specs.Parts.{block_of};
+ghost use Rattle.log_block.specs.Reading.{type_at, parts_at, ends_at, inside_at};
 
-use crate::fault::Fault;
-use crate::fields::{after_u64, content_at, u32_at};
+use crate::format::{BlockType, FOOTER_ENTRIES, HEAD_LEN, SIZE_LEN, VERSION};
 use crate::header::{data_header_at, delete_header_at, rollback_header_at};
+use byte_fields::{FieldError, after_u32, after_u64, u32_at, u64_then_bytes_at};
+use byteorder::{BigEndian, ByteOrder};
 use hudi_base::InstantTime;
-
-/// The type of a block: the number 0 is for commands, 1 for deletes and 3 for data.
-#[derive(Clone, Copy)]
-pub enum BlockType {
-    Command,
-    Delete,
-    Data,
-}
 
 /// The parts of a block, where they stand in the bytes that are read.
 #[derive(Clone, Copy)]
@@ -34,77 +28,61 @@ pub enum Parts<'a> {
     },
 }
 
-fn type_of(number: u32) -> Option<BlockType>
-    ensures { result ≡ type_of number }
-{
-    match number {
-        0 => Some(BlockType::Command),
-        1 => Some(BlockType::Delete),
-        3 => Some(BlockType::Data),
-        _ => None,
-    }
-}
-
-/// The type of a block.
+// The type of a block.
 #[tactic(auto, unfolding(crate::specs::Reading::type_at))]
-pub fn type_at(bytes: &[u8]) -> Result<(BlockType, &[u8]), Fault>
+fn type_at(bytes: &[u8]) -> Result<(BlockType, &[u8]), FieldError>
     ensures { Gives (λ x. (x.0, x.1.now)) result (type_at bytes.now) }
 {
-    let (number, rest) = u32_at(bytes)?;
-    match type_of(number) {
+    let (number, rest) = u32_at::<BigEndian>(bytes)?;
+    match BlockType::with_number(number) {
         Some(found) => Ok((found, rest)),
-        None => Err(Fault { left: bytes.len() }),
+        None => Err(FieldError::bad(bytes)),
     }
 }
 
 #[tactic(auto, unfolding(crate::specs::Reading::parts_at))]
-fn data_at(bytes: &[u8]) -> Result<(Parts<'_>, &[u8]), Fault>
+fn data_at(bytes: &[u8]) -> Result<(Parts<'_>, &[u8]), FieldError>
     ensures { Gives (λ x. (block_of x.0, x.1.now)) result (parts_at BlockType.Data bytes.now) }
 {
-    match data_header_at(bytes) {
-        Ok((instant, schema, rest)) => {
-            let (content, rest) = content_at(rest)?;
-            Ok((
-                Parts::Data {
-                    instant,
-                    schema,
-                    content,
-                },
-                rest,
-            ))
-        }
-        Err(fault) => Err(fault),
-    }
+    let (instant, schema, rest) = match data_header_at(bytes) {
+        Ok(found) => found,
+        Err(error) => return Err(error),
+    };
+    let (content, rest) = u64_then_bytes_at::<BigEndian>(rest)?;
+    let parts = Parts::Data {
+        instant,
+        schema,
+        content,
+    };
+    Ok((parts, rest))
 }
 
 #[tactic(auto, unfolding(crate::specs::Reading::parts_at))]
-fn delete_at(bytes: &[u8]) -> Result<(Parts<'_>, &[u8]), Fault>
+fn delete_at(bytes: &[u8]) -> Result<(Parts<'_>, &[u8]), FieldError>
     ensures { Gives (λ x. (block_of x.0, x.1.now)) result (parts_at BlockType.Delete bytes.now) }
 {
-    match delete_header_at(bytes) {
-        Ok((instant, rest)) => {
-            let (content, rest) = content_at(rest)?;
-            Ok((Parts::Delete { instant, content }, rest))
-        }
-        Err(fault) => Err(fault),
-    }
+    let (instant, rest) = match delete_header_at(bytes) {
+        Ok(found) => found,
+        Err(error) => return Err(error),
+    };
+    let (content, rest) = u64_then_bytes_at::<BigEndian>(rest)?;
+    Ok((Parts::Delete { instant, content }, rest))
 }
 
 #[tactic(auto, unfolding(crate::specs::Reading::parts_at))]
-fn rollback_at(bytes: &[u8]) -> Result<(Parts<'_>, &[u8]), Fault>
+fn rollback_at(bytes: &[u8]) -> Result<(Parts<'_>, &[u8]), FieldError>
     ensures { Gives (λ x. (block_of x.0, x.1.now)) result (parts_at BlockType.Command bytes.now) }
 {
-    match rollback_header_at(bytes) {
-        Ok((instant, target, rest)) => {
-            let rest = after_u64(0, rest)?;
-            Ok((Parts::Rollback { instant, target }, rest))
-        }
-        Err(fault) => Err(fault),
-    }
+    let (instant, target, rest) = match rollback_header_at(bytes) {
+        Ok(found) => found,
+        Err(error) => return Err(error),
+    };
+    let rest = after_u64::<BigEndian>(0, rest)?;
+    Ok((Parts::Rollback { instant, target }, rest))
 }
 
-/// The header and the content of a block of that type.
-pub fn parts_at(found: BlockType, bytes: &[u8]) -> Result<(Parts<'_>, &[u8]), Fault>
+// The header and the content of a block of that type.
+fn parts_at(found: BlockType, bytes: &[u8]) -> Result<(Parts<'_>, &[u8]), FieldError>
     ensures { Gives (λ x. (block_of x.0, x.1.now)) result (parts_at found bytes.now) }
 {
     match found {
@@ -112,4 +90,32 @@ pub fn parts_at(found: BlockType, bytes: &[u8]) -> Result<(Parts<'_>, &[u8]), Fa
         BlockType::Delete => delete_at(bytes),
         BlockType::Command => rollback_at(bytes),
     }
+}
+
+// The footer and the size, which are the last bytes of a block.
+#[tactic(auto, unfolding(crate::specs::Reading::ends_at))]
+fn ends_at(size: u64, bytes: &[u8]) -> Result<(), FieldError>
+    ensures { Gives (λ x. x) result (ends_at size bytes.now) }
+{
+    let rest = after_u32::<BigEndian>(FOOTER_ENTRIES, bytes)?;
+    if rest.len() == SIZE_LEN && BigEndian::read_u64(rest) == size {
+        return Ok(());
+    }
+    Err(FieldError::bad(rest))
+}
+
+/// The parts of a block from the bytes behind its length, up to its end.
+#[tactic(auto, unfolding(crate::specs::Reading::inside_at))]
+pub fn inside_at(bytes: &[u8]) -> Result<Parts<'_>, FieldError>
+    requires { length bytes.now + 6 < 2 ^ 64 }
+    ensures { Gives (λ x. block_of x) result (inside_at bytes.now) }
+{
+    let rest = after_u32::<BigEndian>(VERSION, bytes)?;
+    let (found, rest) = type_at(rest)?;
+    let (parts, rest) = match parts_at(found, rest) {
+        Ok(found) => found,
+        Err(error) => return Err(error),
+    };
+    ends_at((bytes.len() + (HEAD_LEN - SIZE_LEN)) as u64, rest)?;
+    Ok(parts)
 }

@@ -5,12 +5,12 @@ use Rattle.std.specs.List.Sorted.{IsPermutation}
 use Rattle.std.proofs.lemmas.List.Elements.{All-from_recursion, recursion_from_All}
 use Rattle.std.proofs.lemmas.List.Sorted.{All-permutation}
 
-pub every : {X : Type 0} (P : X → Type 0) (xs ys : List X) → IsPermutation xs ys → AllByRecursion P xs → AllByRecursion P ys
-every P xs ys moved all = recursion_from_All P ys (All-permutation P xs ys moved (All-from_recursion P xs all))
+pub AllByRecursion-permutation : {X : Type 0} (P : X → Type 0) (xs ys : List X) → IsPermutation xs ys → AllByRecursion P xs → AllByRecursion P ys
+AllByRecursion-permutation P xs ys moved all = recursion_from_All P ys (All-permutation P xs ys moved (All-from_recursion P xs all))
 
-pub filter_none : {X : Type 0} (p : X → Bool) (xs : List X) → AllByRecursion (λ x. p x ≡ false) xs → filter p xs ≡ []
-filter_none p [] fail = refl
-filter_none p (x ∷ xs) fail = ap (λ b. cond b (x ∷ filter p xs) (filter p xs)) fail.0 ∙ filter_none p xs fail.1
+pub filter-none : {X : Type 0} (p : X → Bool) (xs : List X) → AllByRecursion (λ x. p x ≡ false) xs → filter p xs ≡ []
+filter-none p [] fail = refl
+filter-none p (x ∷ xs) fail = ap (λ b. cond b (x ∷ filter p xs) (filter p xs)) fail.0 ∙ filter-none p xs fail.1
 
 filter_alike : {X : Type 0} (p q : X → Bool) (P : X → Type 0) (xs : List X) → AllByRecursion P xs → ((x : X) → P x → p x ≡ q x) → filter p xs ≡ filter q xs
 filter_alike p q P [] all alike = refl
@@ -35,14 +35,14 @@ same_filter p like P xs ys moved all stable alike = by_passing (passing p P xs a
   where
     by_passing : ((x : _) × P x × (p x ≡ true)) ⊎ AllByRecursion (λ x. p x ≡ false) xs → filter p ys ≡ filter p xs
     by_passing (inl (x, here, passes)) =
-        filter_alike p (like x) P ys (every P xs ys moved all) (λ y there. alike x y here there passes)
+        filter_alike p (like x) P ys (AllByRecursion-permutation P xs ys moved all) (λ y there. alike x y here there passes)
         ∙ stable x
         ∙ sym (filter_alike p (like x) P xs all (λ y there. alike x y here there passes))
-    by_passing (inr none) = filter_none p ys (every (λ x. p x ≡ false) xs ys moved none) ∙ sym (filter_none p xs none)
+    by_passing (inr none) = filter-none p ys (AllByRecursion-permutation (λ x. p x ≡ false) xs ys moved none) ∙ sym (filter-none p xs none)
 
-pub filter_map : {X Y : Type 0} (f : X → Y) (p : Y → Bool) (xs : List X) → filter p (map f xs) ≡ map f (filter (λ x. p (f x)) xs)
-filter_map f p [] = refl
-filter_map f p (x ∷ xs) = ap (λ rest. cond (p (f x)) (f x ∷ rest) rest) (filter_map f p xs) ∙ by_test (p (f x))
+pub filter-map : {X Y : Type 0} (f : X → Y) (p : Y → Bool) (xs : List X) → filter p (map f xs) ≡ map f (filter (λ x. p (f x)) xs)
+filter-map f p [] = refl
+filter-map f p (x ∷ xs) = ap (λ rest. cond (p (f x)) (f x ∷ rest) rest) (filter-map f p xs) ∙ by_test (p (f x))
   where
     by_test : (b : Bool) → cond b (f x ∷ map f (filter (λ z. p (f z)) xs)) (map f (filter (λ z. p (f z)) xs)) ≡ map f (cond b (x ∷ filter (λ z. p (f z)) xs) (filter (λ z. p (f z)) xs))
     by_test true = refl

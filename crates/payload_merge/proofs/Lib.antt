@@ -1,11 +1,13 @@
-pub mod Batches
-pub mod InOrder
-pub mod Keyed
-pub mod Filters
-pub mod Folds
-pub mod Heads
-pub mod KeptRows
+pub mod Contents
+mod Filters
+pub mod InstantFolds
+mod KeyPrefixes
+pub mod KeyedTables
 pub mod Keys
-pub mod Payloads
+pub mod PayloadRule
+mod PrefixedRows
+mod PutsInOrder
+mod RowsByKey
+pub mod Summaries
 pub mod Tables
 pub mod TimeOrders

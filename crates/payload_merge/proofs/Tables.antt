@@ -5,9 +5,9 @@ use Rattle.std.specs.Ordering.{eq_by_cmp}
 use Rattle.std.specs.FinMap.{empty, get, get-empty, get-insert, get-remove, same_map, entries, len, len-entries, len-empty, empty_of_len}
 use Rattle.payload_merge.specs.declared.row.Row.{Row}
 use Rattle.payload_merge.specs.declared.row.Write.{Write}
-use Rattle.payload_merge.specs.Payload.{Key, key_cmp, key_of, applied}
-use Rattle.payload_merge.specs.Fold.{RowTable, with_row, after, after_all, Batch, fold, rows_of, writes_in_order}
-use Rattle.payload_merge.specs.Laws.{applied_all, writes_to}
+use Rattle.payload_merge.specs.Payload.{Key, key_cmp, key_of, row_after}
+use Rattle.payload_merge.specs.Fold.{RowTable, with_row, table_after, table_after_all, InstantWrites, fold, rows_of, writes_in_order, row_after_all}
+use Rattle.payload_merge.specs.Laws.{writes_to}
 use Rattle.payload_merge.proofs.Keys.{keys_total, exact_keys, same_key}
 
 -- two tables that have the same row at each key are one
@@ -32,11 +32,11 @@ with_row_same m k = same_table _ m (λ q. get-with_row m k (get m k) q ∙ by_te
     by_test q false h = refl
 
 -- the row of a key after one write
-pub get-after : (m : RowTable) (w : Write) (q : Key) → get (after m w) q ≡ cond (eq_by_cmp key_cmp q (key_of w)) (applied (get m q) w) (get m q)
-get-after m w q = get-with_row m (key_of w) _ q ∙ by_test (eq_by_cmp key_cmp q (key_of w)) refl
+pub get-table_after : (m : RowTable) (w : Write) (q : Key) → get (table_after m w) q ≡ cond (eq_by_cmp key_cmp q (key_of w)) (row_after (get m q) w) (get m q)
+get-table_after m w q = get-with_row m (key_of w) _ q ∙ by_test (eq_by_cmp key_cmp q (key_of w)) refl
   where
-    by_test : (b : Bool) → eq_by_cmp key_cmp q (key_of w) ≡ b → cond b (applied (get m (key_of w)) w) (get m q) ≡ cond b (applied (get m q) w) (get m q)
-    by_test true h = ap (λ k. applied (get m k) w) (sym (same_key q (key_of w) h))
+    by_test : (b : Bool) → eq_by_cmp key_cmp q (key_of w) ≡ b → cond b (row_after (get m (key_of w)) w) (get m q) ≡ cond b (row_after (get m q) w) (get m q)
+    by_test true h = ap (λ k. row_after (get m k) w) (sym (same_key q (key_of w) h))
     by_test false h = refl
 
 -- what an empty table has
@@ -44,28 +44,28 @@ pub get-nothing : (q : Key) → get (empty {X = Row} {R = key_cmp}) q ≡ None
 get-nothing q = get-empty key_cmp q
 
 -- the row of a key after all writes
-pub get-after_all : (m : RowTable) (ws : List Write) (q : Key) → get (after_all m ws) q ≡ applied_all (get m q) (writes_to q ws)
-get-after_all m [] q = refl
-get-after_all m (w ∷ ws) q = get-after_all (after m w) ws q
-    ∙ ap (λ present. applied_all present (writes_to q ws)) (get-after m w q)
+pub get-table_after_all : (m : RowTable) (ws : List Write) (q : Key) → get (table_after_all m ws) q ≡ row_after_all (get m q) (writes_to q ws)
+get-table_after_all m [] q = refl
+get-table_after_all m (w ∷ ws) q = get-table_after_all (table_after m w) ws q
+    ∙ ap (λ present. row_after_all present (writes_to q ws)) (get-table_after m w q)
     ∙ by_test (eq_by_cmp key_cmp q (key_of w))
   where
-    by_test : (b : Bool) → applied_all (cond b (applied (get m q) w) (get m q)) (writes_to q ws) ≡ applied_all (get m q) (cond b (w ∷ writes_to q ws) (writes_to q ws))
+    by_test : (b : Bool) → row_after_all (cond b (row_after (get m q) w) (get m q)) (writes_to q ws) ≡ row_after_all (get m q) (cond b (w ∷ writes_to q ws) (writes_to q ws))
     by_test true = refl
     by_test false = refl
 
--- the row of a key after batches
-pub get-fold : (batches : List Batch) (q : Key) → get (fold batches) q ≡ applied_all None (writes_to q (writes_in_order batches))
-get-fold batches q = get-after_all empty (writes_in_order batches) q ∙ ap (λ present. applied_all present (writes_to q (writes_in_order batches))) (get-nothing q)
+-- the row of a key after instants
+pub get-fold : (instants : List InstantWrites) (q : Key) → get (fold instants) q ≡ row_after_all None (writes_to q (writes_in_order instants))
+get-fold instants q = get-table_after_all empty (writes_in_order instants) q ∙ ap (λ present. row_after_all present (writes_to q (writes_in_order instants))) (get-nothing q)
 
 -- writes one list after another
-pub after_all-append : (m : RowTable) (xs ys : List Write) → after_all m (xs ++ ys) ≡ after_all (after_all m xs) ys
-after_all-append m [] ys = refl
-after_all-append m (x ∷ xs) ys = after_all-append (after m x) xs ys
+pub table_after_all-append : (m : RowTable) (xs ys : List Write) → table_after_all m (xs ++ ys) ≡ table_after_all (table_after_all m xs) ys
+table_after_all-append m [] ys = refl
+table_after_all-append m (x ∷ xs) ys = table_after_all-append (table_after m x) xs ys
 
 -- one more write
-pub after_all-push : (m : RowTable) (xs : List Write) (w : Write) → after_all m (xs ++ w ∷ []) ≡ after (after_all m xs) w
-after_all-push m xs w = after_all-append m xs (w ∷ [])
+pub table_after_all-push : (m : RowTable) (xs : List Write) (w : Write) → table_after_all m (xs ++ w ∷ []) ≡ table_after (table_after_all m xs) w
+table_after_all-push m xs w = table_after_all-append m xs (w ∷ [])
 
 no_length : {A : Type 0} (xs : List A) → length xs ≡ 0 → xs ≡ []
 no_length [] h = refl
@@ -99,12 +99,12 @@ writes_among p q (w ∷ ws) = by_tests (eq_by_cmp key_cmp q (key_of w)) (p (key_
     by_tests false false apart fails rest = rest
 
 -- writes whose keys pass a test change what all would at a key that passes, and nothing at one that doesn't
-pub get-after_all-among : (p : Key → Bool) (m : RowTable) (ws : List Write) (q : Key) → get (after_all m (filter (λ w. p (key_of w)) ws)) q ≡ cond (p q) (get (after_all m ws) q) (get m q)
-get-after_all-among p m ws q =
-    get-after_all m (filter (λ w. p (key_of w)) ws) q
-    ∙ ap (applied_all (get m q)) (writes_among p q ws)
+pub get-table_after_all-among : (p : Key → Bool) (m : RowTable) (ws : List Write) (q : Key) → get (table_after_all m (filter (λ w. p (key_of w)) ws)) q ≡ cond (p q) (get (table_after_all m ws) q) (get m q)
+get-table_after_all-among p m ws q =
+    get-table_after_all m (filter (λ w. p (key_of w)) ws) q
+    ∙ ap (row_after_all (get m q)) (writes_among p q ws)
     ∙ by_test (p q)
   where
-    by_test : (c : Bool) → applied_all (get m q) (cond c (writes_to q ws) []) ≡ cond c (get (after_all m ws) q) (get m q)
-    by_test true = sym (get-after_all m ws q)
+    by_test : (c : Bool) → row_after_all (get m q) (cond c (writes_to q ws) []) ≡ cond c (get (table_after_all m ws) q) (get m q)
+    by_test true = sym (get-table_after_all m ws q)
     by_test false = refl

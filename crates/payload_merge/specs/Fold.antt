@@ -5,7 +5,12 @@ use Rattle.std.specs.FinMap.{FinMap, empty, get, insert, remove, values}
 use Rattle.payload_merge.specs.declared.row.Row.{Row}
 use Rattle.payload_merge.specs.declared.row.Write.{Write}
 use Rattle.payload_merge.specs.declared.row.Write.TheVariants.{Put, Del}
-use Rattle.payload_merge.specs.Payload.{Key, key_cmp, key_of, key_of_row, applied}
+use Rattle.payload_merge.specs.Payload.{Key, key_cmp, key_of, key_of_row, row_after}
+
+-- the row of one key after writes to it, the first first
+abbrev pub row_after_all : Option Row → List Write → Option Row
+row_after_all present [] = present
+row_after_all present (write ∷ writes) = row_after_all (row_after present write) writes
 
 -- the present row of each key
 abbrev pub RowTable : Type 0
@@ -17,51 +22,56 @@ with_row table key (Some row) = insert table key row
 with_row table key None = remove table key
 
 -- a table after one write
-abbrev pub after : RowTable → Write → RowTable
-after table write = with_row table (key_of write) (applied (get table (key_of write)) write)
+abbrev pub table_after : RowTable → Write → RowTable
+table_after table write = with_row table (key_of write) (row_after (get table (key_of write)) write)
 
 -- a table after writes, the first first
-abbrev pub after_all : RowTable → List Write → RowTable
-after_all table [] = table
-after_all table (write ∷ writes) = after_all (after table write) writes
+abbrev pub table_after_all : RowTable → List Write → RowTable
+table_after_all table [] = table
+table_after_all table (write ∷ writes) = table_after_all (table_after table write) writes
 
--- an instant, in milliseconds, and what was written at it, in the order of the batch
-pub record Batch : Type 0 where
+-- an instant, in milliseconds, and its writes in the order of their places; the row of each put carries the instant
+-- and its place
+pub record InstantWrites : Type 0 where
   pub instant : ℕ
   pub writes : List Write
 
--- a write as its batch makes it: a put's row says at which instant and at which place of the batch it was written
-abbrev pub stamped : ℕ → ℕ → Write → Write
-stamped instant place (Put row) = Put (record row { commit = instant; seq = place })
-stamped instant place (Del partition key rank) = Del partition key rank
+-- a write as an instant makes it: a put's row carries the instant and its place in the batch
+abbrev pub write_at : ℕ → ℕ → Write → Write
+write_at instant place (Put row) = Put (record row { commit = instant; seq = place })
+write_at instant place (Del partition key rank) = Del partition key rank
 
--- the same of writes at this place and those after it
-abbrev pub stamped_from : ℕ → ℕ → List Write → List Write
-stamped_from instant place [] = []
-stamped_from instant place (write ∷ writes) = stamped instant place write ∷ stamped_from instant (place + 1) writes
+-- the same of writes at this place and those that follow
+abbrev pub writes_from : ℕ → ℕ → List Write → List Write
+writes_from instant place [] = []
+writes_from instant place (write ∷ writes) = write_at instant place write ∷ writes_from instant (place + 1) writes
 
--- the writes of a batch, whose places are counted from 0
-abbrev pub writes_of : Batch → List Write
-writes_of batch = stamped_from batch.instant 0 batch.writes
+-- what an instant writes where it takes a whole batch, whose places are counted from 0
+abbrev pub batch_at : ℕ → List Write → InstantWrites
+batch_at instant writes = record { instant = instant; writes = writes_from instant 0 writes }
 
--- a batch among others that are in the order of their instants: before the first that isn't earlier
-abbrev pub insert_by_instant : Batch → List Batch → List Batch
-insert_by_instant batch [] = batch ∷ []
-insert_by_instant batch (first ∷ rest) =
-    if nat_le batch.instant first.instant then batch ∷ first ∷ rest else first ∷ insert_by_instant batch rest
+-- the writes of one instant
+abbrev pub writes_of : InstantWrites → List Write
+writes_of each = each.writes
 
--- batches in the order of their instants; those of one instant stay in the order in which they came
-abbrev pub in_time_order : List Batch → List Batch
+-- an instant among others that are in the order of time: before the first that isn't earlier
+abbrev pub insert_by_instant : InstantWrites → List InstantWrites → List InstantWrites
+insert_by_instant each [] = each ∷ []
+insert_by_instant each (first ∷ rest) =
+    if nat_le each.instant first.instant then each ∷ first ∷ rest else first ∷ insert_by_instant each rest
+
+-- instants in the order of time; those of one time stay in the order in which they came
+abbrev pub in_time_order : List InstantWrites → List InstantWrites
 in_time_order [] = []
-in_time_order (batch ∷ batches) = insert_by_instant batch (in_time_order batches)
+in_time_order (each ∷ instants) = insert_by_instant each (in_time_order instants)
 
--- the writes of all batches, in the order in which they take effect
-abbrev pub writes_in_order : List Batch → List Write
-writes_in_order batches = flat_map writes_of (in_time_order batches)
+-- the writes of all instants, in the order in which they take effect
+abbrev pub writes_in_order : List InstantWrites → List Write
+writes_in_order instants = flat_map writes_of (in_time_order instants)
 
--- the table that batches make of an empty one
-abbrev pub fold : List Batch → RowTable
-fold batches = after_all empty (writes_in_order batches)
+-- the table that instants make of an empty one
+abbrev pub fold : List InstantWrites → RowTable
+fold instants = table_after_all empty (writes_in_order instants)
 
 -- the rows of a table, in the order of their keys
 abbrev pub rows_of : RowTable → List Row

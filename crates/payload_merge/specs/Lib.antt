@@ -1,5 +1,9 @@
-pub mod Fold
-pub mod Kept
-pub mod LentRows
-pub mod Laws
 pub mod Payload
+pub mod Fold
+pub mod Contents
+pub mod RowCodec
+pub mod Summary
+pub mod Laws
+pub mod RowRefs
+pub mod KeyOrder
+pub mod RowsByKey

@@ -37,7 +37,7 @@ winner false present (Put row) = Some row
 winner false present (Del partition key rank) = None
 
 -- the row of a key after a write to it
-abbrev pub applied : Option Row → Write → Option Row
-applied None (Put row) = Some row
-applied None (Del partition key rank) = None
-applied (Some present) write = winner (int_lt (rank_of write) present.rank) present write
+abbrev pub row_after : Option Row → Write → Option Row
+row_after None (Put row) = Some row
+row_after None (Del partition key rank) = None
+row_after (Some present) write = winner (int_lt (rank_of write) present.rank) present write

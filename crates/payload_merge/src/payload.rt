@@ -1,7 +1,7 @@
 // The payload rule.
 ghost use Rattle.std.specs.Prelude.{◌≡◌, ◌<ℤ◌, ◌↔◌, IsTrue};
 ghost use Rattle.std.specs.Option.{ForSome};
-ghost use Rattle.payload_merge.specs.Payload.{key_of, key_of_row, rank_of, applied};
+ghost use Rattle.payload_merge.specs.Payload.{key_of, key_of_row, rank_of, row_after};
 
 use crate::row::{Row, Write};
 
@@ -9,20 +9,20 @@ use crate::row::{Row, Write};
 /// no memory.
 pub fn apply(cur: Option<Row>, w: Write) -> Option<Row>
     requires { ForSome cur (λ row. key_of_row row ≡ key_of w) }
-    ensures { result ≡ applied cur w }
+    ensures { result ≡ row_after cur w }
 {
     let Some(present) = cur else {
-        return written(w);
+        return row_left_by(w);
     };
     if outranks(present.rank, rank(&w)) {
         return Some(present);
     }
-    written(w)
+    row_left_by(w)
 }
 
 // What a write leaves where no present row outranks it: a put its row, a delete nothing.
-fn written(w: Write) -> Option<Row>
-    ensures { result ≡ applied None w }
+pub(crate) fn row_left_by(w: Write) -> Option<Row>
+    ensures { result ≡ row_after None w }
 {
     match w {
         Write::Put(row) => Some(row),
@@ -30,7 +30,8 @@ fn written(w: Write) -> Option<Row>
     }
 }
 
-fn rank(w: &Write) -> i64
+// The rank of a write.
+pub(crate) fn rank(w: &Write) -> i64
     ensures { result ≡ rank_of w.now }
 {
     match w {

@@ -31,5 +31,8 @@ pub enum Write {
     },
 }
 
-/// Rows in some order.
+/// Rows, as in a batch or in the order of their keys.
 pub type Rows = Sequence<Row>;
+
+/// Writes, in the order in which they take effect.
+pub type Writes = Sequence<Write>;

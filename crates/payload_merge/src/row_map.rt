@@ -3,11 +3,11 @@
 ghost use Rattle.std.specs.Prelude.{◌≡◌, None, IfOk, OnOk, OnErr, IsTrue, ◌↔◌};
 ghost use Rattle.std.specs.FinMap as table;
 ghost use Rattle.payload_merge.specs.Payload.{key_of};
-ghost use Rattle.payload_merge.specs.Fold.{after, rows_of};
+ghost use Rattle.payload_merge.specs.Fold.{table_after, rows_of};
 
-use crate::kept_rows::{KeptRows, delete, joined_rows, put};
 use crate::merge_error::MergeError;
 use crate::row::{Rows, Write};
+use crate::rows_by_key::{RowsByKey, delete, into_rows, put};
 use std::alloc::Global;
 use std::collections::BTreeMap;
 use std::marker::Model;
@@ -16,7 +16,7 @@ use std::marker::Model;
 /// a partition and a record key, to rows.
 #[derive(Drop)]
 pub struct RowMap {
-    kept: KeptRows,
+    by_key: RowsByKey,
 }
 
 impl Model for RowMap {
@@ -24,13 +24,13 @@ impl Model for RowMap {
     ghost use Rattle.std.specs.FinMap as table;
     ghost use Rattle.payload_merge.specs.contracts.row.Row as row;
     ghost use Rattle.payload_merge.specs.Fold.{RowTable};
-    ghost use Rattle.payload_merge.specs.Kept.{table_of};
+    ghost use Rattle.payload_merge.specs.RowsByKey.{table_of};
 
     ghost Value = { RowTable };
 
     ghost coded = { table.code (coded× (coded_list coded_ℕ) (coded_list coded_ℕ)) row.the_row.coded };
 
-    ghost view = { λ rows. table_of rows.kept.entries };
+    ghost view = { λ rows. table_of rows.by_key.entries };
 }
 
 impl RowMap {
@@ -39,7 +39,7 @@ impl RowMap {
         ensures { result ≡ table.empty }
     {
         RowMap {
-            kept: BTreeMap::new(alloc),
+            by_key: BTreeMap::new(alloc),
         }
     }
 
@@ -47,7 +47,7 @@ impl RowMap {
     pub fn len(&self) -> usize
         ensures { result ≡ table.len self.now }
     {
-        self.kept.len()
+        self.by_key.len()
     }
 
     /// Whether there is no row.
@@ -60,18 +60,18 @@ impl RowMap {
     /// Takes one more write: the row of its key gives way to what the payload rule makes of it. An error, which
     /// only a write to a key with no row can have, changes nothing.
     pub fn fold_in(&mut self, w: Write) -> Result<(), MergeError>
-        ensures ok { OnOk result (self.new ≡ after self.old w) }
+        ensures ok { OnOk result (self.new ≡ table_after self.old w) }
         ensures err { OnErr result (self.new ≡ self.old) }
         ensures absent { OnErr result (table.get self.old (key_of w) ≡ None) }
     {
         match w {
-            Write::Put(row) => put(&mut self.kept, row),
+            Write::Put(row) => put(&mut self.by_key, row),
             Write::Del {
                 partition,
                 key,
                 rank,
             } => {
-                delete(&mut self.kept, (partition, key), rank);
+                delete(&mut self.by_key, (partition, key), rank);
                 Ok(())
             }
         }
@@ -81,6 +81,6 @@ impl RowMap {
     pub fn rows(self, alloc: Global) -> Result<Rows, MergeError>
         ensures { IfOk result (λ rows. rows ≡ rows_of self) }
     {
-        joined_rows(alloc, self.kept)
+        into_rows(alloc, self.by_key)
     }
 }

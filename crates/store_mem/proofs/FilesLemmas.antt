@@ -1,21 +1,21 @@
 -- Files that are made of entries, as a tree has them, and files that operations make.
-use Rattle.std.proofs.Common.{◌≡◌, ℕ, Bool, true, false, T, cond, ◌&&◌, List, [], ◌∷◌, ◌++◌, length, Option, Some, None, unwrap_or, refl, sym, ◌∙◌, ap, subst}
+use Rattle.std.proofs.Common.{◌≡◌, ℕ, zero, suc, ◌<◌, Bool, true, false, T, cond, ◌&&◌, List, [], ◌∷◌, ◌++◌, length, map, slice_index_or, Option, Some, None, unwrap_or, refl, sym, ◌∙◌, ap, subst, arith, add-one}
 use Rattle.std.specs.declared.cmp.Ordering.{Ordering}
-use Rattle.std.specs.declared.cmp.Ordering.TheVariants.{Less}
-use Rattle.std.specs.Ordering.{nat_cmp, is_lt}
+use Rattle.std.specs.declared.cmp.Ordering.TheVariants.{Less, Equal, Greater}
+use Rattle.std.specs.Ordering.{nat_cmp, is_lt, ordering_reverse}
 use Rattle.std.specs.Cmp.{eq_by_cmp_equiv}
 use Rattle.std.specs.Cmp.Lexicographic.{slice_cmp, nat_list_cmp_total}
 use Rattle.std.specs.BTreeMap.{is_at}
 use Rattle.std.specs.List.{AllByRecursion}
-use Rattle.std.specs.List.Sorted.{IsStrictlySortedBy}
+use Rattle.std.specs.List.Sorted.{IsStrictlySortedBy, IsSortedByKey}
 use Rattle.std.specs.Map.{lookup, keys_of}
-use Rattle.std.specs.FinMap.{get, find, insert, remove, entries, len, from_sorted, same_map, get-insert, get-remove, get-from_entries, get-from_sorted, entries-from_sorted, len-entries}
+use Rattle.std.specs.FinMap.{get, find, insert, remove, entries, entries_sorted, len, from_sorted, same_map, get-insert, get-remove, get-from_entries, get-from_sorted, entries-from_sorted, len-entries}
 use Rattle.std.specs.FinMap.Entries.{is_sorted, below_all}
 use Rattle.std.proofs.lemmas.Map.Lookups.{exact_bytes}
-use Rattle.hudi_base.specs.Files.{FileMap, content, changed, changed_all}
+use Rattle.hudi_base.specs.Files.{FileMap, content, changed, changed_all, sizes}
 use Rattle.hudi_base.specs.declared.operation.Operation.{Operation}
 use Rattle.hudi_base.specs.declared.store.FileSize.{FileSize}
-use Rattle.store_mem.specs.Files.{files_in}
+use Rattle.store_mem.specs.Entries.{files_in}
 
 -- the order of names
 abbrev pub by_bytes : List ℕ → List ℕ → Ordering
@@ -94,3 +94,32 @@ changed_all-push files (o ∷ operations) operation = changed_all-push (changed 
 -- a file's name and size
 abbrev pub size_of : List ℕ × List ℕ → FileSize
 size_of file = record { name = file.0; size = length file.1 }
+
+first : (a b : Bool) → T (a && b) → T a
+first true b p = tt
+first false b p = absurd p
+
+second : (a b : Bool) → T (a && b) → T b
+second true b p = p
+second false b p = absurd p
+
+less : (o : Ordering) → T (is_lt o) → o ≡ Less
+less Less p = refl
+less Equal p = absurd p
+less Greater p = absurd p
+
+-- of two names the greater isn't also the lesser
+never_after : (x y : List ℕ) → T (is_lt (by_bytes x y)) → is_lt (by_bytes y x) ≡ false
+never_after x y h = ap is_lt (nat_list_cmp_total.antisymm y x ∙ ap ordering_reverse (less _ h))
+
+-- each size comes after the one before it, by the names
+next_rises : (es : List (List ℕ × List ℕ)) → T (is_sorted by_bytes es) → (k : ℕ) (d : FileSize) → suc k < length (map size_of es)
+    → is_lt (by_bytes (slice_index_or (map size_of es) (suc k) d).name (slice_index_or (map size_of es) k d).name) ≡ false
+next_rises [] h k d b = absurd (omega arith)
+next_rises (e ∷ []) h k d b = absurd (omega arith)
+next_rises (e ∷ f ∷ es) h zero d b = never_after e.0 f.0 (first _ _ (first _ _ h))
+next_rises (e ∷ f ∷ es) h (suc k) d b = next_rises (f ∷ es) (second _ _ h) k d (omega arith)
+
+-- the sizes of files stand in the order of the names
+pub sizes_rise : (files : FileMap) → IsSortedByKey (λ file. file.name) by_bytes (sizes files)
+sizes_rise files k d low high = rw add-one (next_rises (entries files) (entries_sorted files) k d (omega arith))

@@ -1,4 +1,5 @@
 pub mod Calls
+pub mod Entries
 pub mod Files
 pub mod MemClock
 pub mod MemStore

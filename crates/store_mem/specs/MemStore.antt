@@ -1,7 +1,9 @@
--- A store in memory, and what its calls answer and leave.
-use Rattle.std.specs.Prelude.{◌≡◌, ℕ, Bool, true, false, List, [], ◌∷◌, ◌++◌, take, Some, None, IsSome}
-use Rattle.std.specs.FinMap.{empty, get}
-use Rattle.hudi_base.specs.Files.{FileMap, Told}
+-- A store in memory, and what its calls answer and leave. This project's own.
+use Rattle.std.specs.Prelude.{◌≡◌, ℕ, true, false, List, [], ◌∷◌, take, None, IsSome}
+use Rattle.std.specs.FinMap.{get}
+use Rattle.hudi_base.specs.Faults.{one_more}
+use Rattle.hudi_base.specs.Files.{FileMap}
+use Rattle.hudi_base.specs.Store.{StoreState}
 use Rattle.hudi_base.specs.declared.operation.Operation.{Operation}
 use Rattle.hudi_base.specs.declared.operation.Operation.TheVariants.{Create, Append, Remove}
 use Rattle.hudi_base.specs.declared.store.Made.{Made}
@@ -10,59 +12,64 @@ use Rattle.hudi_base.specs.declared.store.Added.{Added}
 use Rattle.hudi_base.specs.declared.store.Added.TheVariants as added
 use Rattle.hudi_base.specs.declared.store.Gone.{Gone}
 use Rattle.hudi_base.specs.declared.store.Gone.TheVariants as gone
-use Rattle.store_mem.specs.Files.{files_made_by}
-use Rattle.store_mem.specs.Calls.{one_more, is_listed}
+use Rattle.store_mem.specs.Calls.{CallState, fails_next, after_call}
+use Rattle.store_mem.specs.Files.{FileHistory, files_made, after_operations, told_of}
 
--- The operations done; the numbers of the changing calls that are to fail, from 0; how many bytes of its piece a
--- failing append leaves; how many changing calls there were, and how often one failed, both up to the greatest `u64`.
+-- The files that it was given and the operations done since; its changing calls, those of `create`, `append` and
+-- `remove`; how many bytes of its piece a failing append leaves; and how often a call failed, up to the greatest `u64`.
 pub record MemoryStore : Type 0 where
-  pub operations : List Operation
-  pub failing : List ℕ
+  pub history : FileHistory
+  pub changes : CallState
   pub prefix : ℕ
-  pub calls : ℕ
   pub faults : ℕ
 
 -- its files
 abbrev pub files_of : MemoryStore → FileMap
-files_of store = files_made_by store.operations
+files_of store = files_made store.history
 
--- what it tells: everything, of no files at first
-abbrev pub told_of : MemoryStore → Told
-told_of store = record { files = Some (files_of store); operations = Some store.operations; first = Some empty }
-
--- the next changing call is to fail
-abbrev pub fails_next : MemoryStore → Bool
-fails_next store = is_listed store.failing store.calls
+-- what is seen of it, which is everything
+abbrev pub state_of : MemoryStore → StoreState
+state_of store = record { told = told_of store.history; faults = store.faults }
 
 -- after a changing call that did these operations
-abbrev pub called : MemoryStore → List Operation → MemoryStore
-called store operations = record store { operations = store.operations ++ operations; calls = one_more store.calls }
+abbrev pub after_change : MemoryStore → List Operation → MemoryStore
+after_change store operations =
+    record store { history = after_operations store.history operations; changes = after_call store.changes }
 
--- after one that failed
-abbrev pub failed : MemoryStore → List Operation → MemoryStore
-failed store operations = record store { operations = store.operations ++ operations; calls = one_more store.calls; faults = one_more store.faults }
+-- after one that failed, and did these
+abbrev pub after_failure : MemoryStore → List Operation → MemoryStore
+after_failure store operations =
+    record store { history = after_operations store.history operations; changes = after_call store.changes; faults = one_more store.faults }
 
--- the operation that leaves these bytes, none for no byte
+-- the operation that leaves these bytes in a file, none for no byte
 abbrev pub left_by : List ℕ → List ℕ → List Operation
 left_by name [] = []
 left_by name (byte ∷ bytes) = Append name (byte ∷ bytes) ∷ []
 
 -- the creation of a file
-abbrev pub MemoryCreates : MemoryStore → List ℕ → List ℕ → Made → MemoryStore → Type 0
-MemoryCreates old name bytes made.Created new = (fails_next old ≡ false) × (get (files_of old) name ≡ None) × (new ≡ called old (Create name bytes ∷ []))
-MemoryCreates old name bytes made.Exists new = (fails_next old ≡ false) × IsSome (get (files_of old) name) × (new ≡ called old [])
-MemoryCreates old name bytes made.Failed new = (fails_next old ≡ true) × (new ≡ failed old [])
-MemoryCreates old name bytes made.Memory new = (fails_next old ≡ false) × (get (files_of old) name ≡ None) × (new ≡ called old [])
+abbrev pub MemoryCreates : MemoryStore → MemoryStore → List ℕ → List ℕ → Made → Type 0
+MemoryCreates old new name bytes made.Created =
+    (fails_next old.changes ≡ false) × (get (files_of old) name ≡ None) × (new ≡ after_change old (Create name bytes ∷ []))
+MemoryCreates old new name bytes made.Exists =
+    (fails_next old.changes ≡ false) × IsSome (get (files_of old) name) × (new ≡ after_change old [])
+MemoryCreates old new name bytes made.Failed = (fails_next old.changes ≡ true) × (new ≡ after_failure old [])
+MemoryCreates old new name bytes made.Memory =
+    (fails_next old.changes ≡ false) × (get (files_of old) name ≡ None) × (new ≡ after_change old [])
 
--- An append. Memory may be missing for the front that a failing one leaves, too.
-abbrev pub MemoryAppends : MemoryStore → List ℕ → List ℕ → Added → MemoryStore → Type 0
-MemoryAppends old name bytes added.Added new = (fails_next old ≡ false) × (new ≡ called old (Append name bytes ∷ []))
-MemoryAppends old name bytes added.Failed new = (fails_next old ≡ true) × (new ≡ failed old (left_by name (take old.prefix bytes)))
-MemoryAppends old name bytes added.Memory new = new ≡ called old []
+-- An append. Memory may be wanting for the prefix that a failing one leaves, too.
+abbrev pub MemoryAppends : MemoryStore → MemoryStore → List ℕ → List ℕ → Added → Type 0
+MemoryAppends old new name bytes added.Added =
+    (fails_next old.changes ≡ false) × (new ≡ after_change old (Append name bytes ∷ []))
+MemoryAppends old new name bytes added.Failed =
+    (fails_next old.changes ≡ true) × (new ≡ after_failure old (left_by name (take old.prefix bytes)))
+MemoryAppends old new name bytes added.Memory = new ≡ after_change old []
 
 -- a removal
-abbrev pub MemoryRemoves : MemoryStore → List ℕ → Gone → MemoryStore → Type 0
-MemoryRemoves old name gone.Removed new = (fails_next old ≡ false) × IsSome (get (files_of old) name) × (new ≡ called old (Remove name ∷ []))
-MemoryRemoves old name gone.Absent new = (fails_next old ≡ false) × (get (files_of old) name ≡ None) × (new ≡ called old [])
-MemoryRemoves old name gone.Failed new = (fails_next old ≡ true) × (new ≡ failed old [])
-MemoryRemoves old name gone.Memory new = (fails_next old ≡ false) × IsSome (get (files_of old) name) × (new ≡ called old [])
+abbrev pub MemoryRemoves : MemoryStore → MemoryStore → List ℕ → Gone → Type 0
+MemoryRemoves old new name gone.Removed =
+    (fails_next old.changes ≡ false) × IsSome (get (files_of old) name) × (new ≡ after_change old (Remove name ∷ []))
+MemoryRemoves old new name gone.Absent =
+    (fails_next old.changes ≡ false) × (get (files_of old) name ≡ None) × (new ≡ after_change old [])
+MemoryRemoves old new name gone.Failed = (fails_next old.changes ≡ true) × (new ≡ after_failure old [])
+MemoryRemoves old new name gone.Memory =
+    (fails_next old.changes ≡ false) × IsSome (get (files_of old) name) × (new ≡ after_change old [])

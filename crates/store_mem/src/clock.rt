@@ -1,7 +1,6 @@
 // A clock in memory.
 ghost use Rattle.std.specs.Prelude.{◌≡◌};
-ghost use Rattle.std.specs.Int.{int_max};
-ghost use Rattle.store_mem.specs.MemClock.{MemoryClock};
+ghost use Rattle.hudi_base.specs.Clock.{after_answer};
 
 use hudi_base::Clock;
 use std::marker::Model;
@@ -20,13 +19,13 @@ impl Model for MemClock {
 
     ghost Value = { MemoryClock };
 
-    ghost view = { λ clock. record { stands_at = clock.stands_at; last = clock.last; most = clock.most } };
+    ghost view = { λ clock. record { stands_at = clock.stands_at; answers = record { last = clock.last; most = clock.most } } };
 }
 
 impl MemClock {
     /// A clock that stands at this number.
     pub fn at(now: i64) -> MemClock
-        ensures { result ≡ record { stands_at = now; last = i64.MIN; most = i64.MIN } }
+        ensures { result ≡ record { stands_at = now; answers = record { last = i64.MIN; most = i64.MIN } } }
     {
         MemClock {
             stands_at: now,
@@ -44,31 +43,14 @@ impl MemClock {
 }
 
 impl Clock for MemClock {
-    ghost last = { λ clock. clock.last };
-
-    ghost most = { λ clock. clock.most };
+    ghost state = { λ clock. clock.answers };
 
     fn now(&mut self) -> i64
         ensures shown { result ≡ self.old.stands_at }
-        ensures counted { self.new ≡ record self.old { last = result; most = int_max self.old.most result } }
+        ensures counted { self.new ≡ record self.old { answers = after_answer self.old.answers result } }
     {
         self.last = self.stands_at;
         self.most = self.most.max(self.last);
         self.last
-    }
-}
-
-#[cfg(test)]
-mod tests {
-    use super::*;
-
-    #[test]
-    fn stands_where_it_is_set(rt: HostRuntime) {
-        let mut clock = MemClock::at(-5);
-        assert_eq!(rt; clock.now(), -5);
-        for time in [-9, 3, 3, i64::MIN, i64::MAX] {
-            clock.set(time);
-            assert_eq!(rt; clock.now(), time);
-        }
     }
 }

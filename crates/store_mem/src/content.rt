@@ -44,21 +44,21 @@ impl Content {
     }
 }
 
-/// The bytes from `at` on, `len` of them or fewer where they end.
-pub fn piece(bytes: &[u8], at: u64, len: u64) -> &[u8]
-    ensures { result.now ≡ take len (drop at bytes.now) }
+/// The bytes from an offset on, `len` of them or fewer where they end.
+pub fn piece(bytes: &[u8], offset: u64, len: u64) -> &[u8]
+    ensures { result.now ≡ take len (drop offset bytes.now) }
 {
-    front(&bytes[bytes.len().min(at as usize)..], len)
+    prefix(&bytes[bytes.len().min(offset as usize)..], len)
 }
 
 /// The first `len` bytes, or all where there are fewer.
-pub fn front(bytes: &[u8], len: u64) -> &[u8]
+pub fn prefix(bytes: &[u8], len: u64) -> &[u8]
     ensures { result.now ≡ take len bytes.now }
 {
     &bytes[..bytes.len().min(len as usize)]
 }
 
-/// Copies bytes to the front of a buffer: as many as both have, and at most `most`. Says how many.
+/// Copies bytes to the beginning of a buffer: as many as both have, and at most `most`. Says how many.
 pub fn fill(buf: &mut [u8], bytes: &[u8], most: usize) -> usize
     ensures count { result ≡ min most (min (length buf.old) (length bytes.now)) }
     ensures bytes { buf.new ≡ take result bytes.now ++ drop result buf.old }

@@ -2,15 +2,27 @@
 ghost use Rattle.std.specs.Prelude.{◌≡◌, ◌++◌, IfOk, OnOk, OnErr};
 ghost use Rattle.std.specs.FinMap as map;
 ghost use Rattle.hudi_base.specs.Files.{changed, content, sizes};
-ghost use Rattle.store_mem.specs.Files.{files_in};
+ghost use Rattle.store_mem.specs.Entries.{files_in};
+ghost use Rattle.store_mem.specs.Files.{files_given};
 
 use crate::content::Content;
-use hudi_base::{FileSize, FileSizes, Name, Operation, Sequence};
+use hudi_base::{Bytes, FileSize, FileSizes, Name, Operation, Sequence};
 use std::alloc::{AllocError, Global};
 use std::collections::BTreeMap;
 
 /// What each file contains.
 pub type Files = BTreeMap<Name, Content>;
+
+/// The files of these names and bytes. Of one name the last stands.
+pub fn given_files(alloc: Global, given: &[(Name, Bytes)]) -> Result<Files, AllocError>
+    ensures { IfOk result (λ files. files_in files.entries ≡ files_given given.now) }
+{
+    let mut files = BTreeMap::new(alloc);
+    for (name, bytes) in given {
+        put(alloc, &mut files, name, bytes.as_slice())?;
+    }
+    Ok(files)
+}
 
 /// Does an operation.
 pub fn change(alloc: Global, files: &mut Files, operation: &Operation) -> Result<(), AllocError>

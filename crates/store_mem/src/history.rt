@@ -1,48 +1,62 @@
-// The files of a store and the operations that made them.
+// The files of a store, those that it was given and the operations done since.
 ghost use Rattle.std.specs.Prelude.{◌≡◌, ◌∷◌, ◌++◌, [], ◌<◌, vec_len, vec_capacity, is_some, IfOk, OnOk, OnErr, MatchOption, None, Some};
 ghost use Rattle.std.specs.FinMap.{get, len};
 ghost use Rattle.hudi_base.specs.Files.{sizes};
-ghost use Rattle.store_mem.specs.Files.{files_made_by};
+ghost use Rattle.store_mem.specs.Files.{after_operations, files_made, no_operations};
 
-use crate::files::{Files, change, sizes_of};
-use hudi_base::{Bytes, FileSizes, Name, Operation};
+use crate::files::{Files, change, given_files, sizes_of};
+use hudi_base::{Bytes, FileSizes, Name, Operation, Sequence};
 use std::alloc::{AllocError, Global};
 use std::collections::BTreeMap;
 use std::marker::Model;
 
-/// The files that operations made of none, and these operations. Contracts see the operations.
+/// Files, as operations made them of those that were given. Contracts see these and the operations.
 #[derive(Drop)]
 pub struct History {
     files: Files,
+    given: Sequence<(Name, Bytes)>,
     operations: Vec<Operation>,
 }
 
 impl Model for History {
-    ghost use Rattle.std.specs.Prelude.{◌≡◌, List};
-    ghost use Rattle.hudi_base.specs.declared.operation.Operation.{Operation};
-    ghost use Rattle.store_mem.specs.Files.{files_in, files_made_by};
+    ghost use Rattle.std.specs.Prelude.{◌≡◌};
+    ghost use Rattle.hudi_base.specs.Files.{changed_all};
+    ghost use Rattle.store_mem.specs.Entries.{files_in};
+    ghost use Rattle.store_mem.specs.Files.{FileHistory, files_given};
 
-    ghost Value = { List Operation };
+    ghost Value = { FileHistory };
 
-    ghost view = { λ history. history.operations.items };
+    ghost view = { λ history. record { given = history.given; operations = history.operations.items } };
 
-    ghost invariant = { λ history. files_in history.files.entries ≡ files_made_by history.operations.items };
+    ghost invariant = { λ history. files_in history.files.entries ≡ changed_all (files_given history.given) history.operations.items };
 }
 
 impl History {
     /// No files, and no operations.
     pub fn new(alloc: Global) -> History
-        ensures { result ≡ [] }
+        ensures { result ≡ no_operations [] }
     {
         History {
             files: BTreeMap::new(alloc),
+            given: Sequence::new(alloc),
             operations: Vec::new(alloc),
         }
     }
 
+    /// These files, and no operations.
+    pub fn with_files(alloc: Global, given: Sequence<(Name, Bytes)>) -> Result<History, AllocError>
+        ensures { IfOk result (λ history. history ≡ no_operations given) }
+    {
+        Ok(History {
+            files: given_files(alloc, given.as_slice())?,
+            given,
+            operations: Vec::new(alloc),
+        })
+    }
+
     /// Makes a file with these bytes.
     pub fn create(&mut self, alloc: Global, name: &Name, bytes: &[u8]) -> Result<(), AllocError>
-        ensures ok { OnOk result (self.new ≡ self.old ++ Operation.Create name.now bytes.now ∷ []) }
+        ensures ok { OnOk result (self.new ≡ after_operations self.old (Operation.Create name.now bytes.now ∷ [])) }
         ensures err { OnErr result (self.new ≡ self.old) }
     {
         let operation = Operation::Create(name.copy(alloc)?, Bytes::from_slice(alloc, bytes)?);
@@ -51,7 +65,7 @@ impl History {
 
     /// Adds bytes at the end of a file, and makes it where it is absent.
     pub fn append(&mut self, alloc: Global, name: &Name, bytes: &[u8]) -> Result<(), AllocError>
-        ensures ok { OnOk result (self.new ≡ self.old ++ Operation.Append name.now bytes.now ∷ []) }
+        ensures ok { OnOk result (self.new ≡ after_operations self.old (Operation.Append name.now bytes.now ∷ [])) }
         ensures err { OnErr result (self.new ≡ self.old) }
     {
         let operation = Operation::Append(name.copy(alloc)?, Bytes::from_slice(alloc, bytes)?);
@@ -60,7 +74,7 @@ impl History {
 
     /// Removes a file.
     pub fn remove(&mut self, alloc: Global, name: &Name) -> Result<(), AllocError>
-        ensures ok { OnOk result (self.new ≡ self.old ++ Operation.Remove name.now ∷ []) }
+        ensures ok { OnOk result (self.new ≡ after_operations self.old (Operation.Remove name.now ∷ [])) }
         ensures err { OnErr result (self.new ≡ self.old) }
     {
         let operation = Operation::Remove(name.copy(alloc)?);
@@ -69,7 +83,7 @@ impl History {
 
     // Does one more operation.
     fn add(&mut self, alloc: Global, operation: Operation) -> Result<(), AllocError>
-        ensures ok { OnOk result (self.new ≡ self.old ++ operation ∷ []) }
+        ensures ok { OnOk result (self.new ≡ after_operations self.old (operation ∷ [])) }
         ensures err { OnErr result (self.new ≡ self.old) }
     {
         self.operations.reserve(1)?;
@@ -80,7 +94,7 @@ impl History {
 
     /// The bytes of a file.
     pub fn file(&self, name: &Name) -> Option<&[u8]>
-        ensures { MatchOption result (get (files_made_by self.now) name.now ≡ None) (λ bytes. get (files_made_by self.now) name.now ≡ Some bytes.now) }
+        ensures { MatchOption result (get (files_made self.now) name.now ≡ None) (λ bytes. get (files_made self.now) name.now ≡ Some bytes.now) }
     {
         match self.files.get(name) {
             Some(content) => Some(content.as_slice()),
@@ -90,28 +104,28 @@ impl History {
 
     /// Whether there is a file of this name.
     pub fn has(&self, name: &Name) -> bool
-        ensures { result ≡ is_some (get (files_made_by self.now) name.now) }
+        ensures { result ≡ is_some (get (files_made self.now) name.now) }
     {
         self.file(name).is_some()
     }
 
     /// How many files there are.
     pub fn file_count(&self) -> usize
-        ensures { result ≡ len (files_made_by self.now) }
+        ensures { result ≡ len (files_made self.now) }
     {
         self.files.len()
     }
 
     /// The files and their sizes, in the order of their names.
     pub fn sizes(&self, alloc: Global) -> Result<FileSizes, AllocError>
-        ensures { IfOk result (λ listing. listing ≡ sizes (files_made_by self.now)) }
+        ensures { IfOk result (λ listing. listing ≡ sizes (files_made self.now)) }
     {
         sizes_of(alloc, &self.files)
     }
 
     /// The operations, in order.
     pub fn operations(&self) -> &[Operation]
-        ensures { result.now ≡ self.now }
+        ensures { result.now ≡ self.now.operations }
     {
         &self.operations
     }

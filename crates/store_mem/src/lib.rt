@@ -5,6 +5,7 @@
 //! say. It stands on `hudi_base`.
 #![tactic(auto)]
 
+mod calls;
 mod clock;
 mod content;
 mod files;

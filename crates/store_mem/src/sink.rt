@@ -1,53 +1,61 @@
 // A sink in memory.
-ghost use Rattle.std.specs.Prelude.{◌≡◌, ◌<◌, ◌^◌, [], Some};
-ghost use Rattle.hudi_base.specs.Faults.{HasCause};
+ghost use Rattle.std.specs.Prelude.{◌≡◌, ◌+◌, ◌<◌, ◌≤◌, [], ◌++◌, length, vec_len, vec_capacity, IfOk, Some};
+ghost use Rattle.hudi_base.specs.Faults.{CountsFault};
 ghost use Rattle.hudi_base.specs.Streams.{Sends};
-ghost use Rattle.store_mem.specs.MemStreams.{MemorySink, MemoryWrites};
+ghost use Rattle.store_mem.specs.Calls.{no_calls};
+ghost use Rattle.store_mem.specs.MemStreams.{MemoryWrites};
 
-use hudi_base::{Sent, Sequence, Sink};
-use std::alloc::Global;
+use crate::calls::Calls;
+use hudi_base::{FaultCount, Sent, Sequence, Sink};
+use std::alloc::{AllocError, Global};
 use std::marker::Model;
 
 /// Memory as a sink, which takes at most so many bytes a call and fails where it is asked to.
 ///
 /// Each call of `write` has a number, from 0, whatever it answers. Those whose numbers are listed fail, and one fails
-/// where memory is missing; a failure writes no byte.
+/// that has bytes to write and finds no room left; a failure writes no byte. The room is taken at the beginning, so
+/// that no call fails for want of memory.
 ///
-/// Contracts see the bytes written, the most that a call takes, the numbers listed, the number of calls so far and
-/// the number of failures, of which the last two stand at the greatest `u64` once there.
+/// Contracts see the bytes written, the capacity, the most that a call takes, the calls and the number of failures.
 #[derive(Drop)]
 pub struct MemSink {
     bytes: Vec<u8>,
+    capacity: usize,
     most: usize,
-    failing: Sequence<u64>,
-    calls: u64,
-    faults: u64,
+    calls: Calls,
+    faults: FaultCount,
 }
 
 impl Model for MemSink {
-    ghost use Rattle.std.specs.Prelude.{◌<◌};
+    ghost use Rattle.std.specs.Prelude.{◌<◌, ◌≤◌, vec_len, vec_capacity};
     ghost use Rattle.store_mem.specs.MemStreams.{MemorySink};
 
     ghost Value = { MemorySink };
 
-    ghost view = { λ sink. record { written = sink.bytes.items; most = sink.most; failing = sink.failing; calls = sink.calls; faults = sink.faults } };
+    ghost view = { λ sink. record { written = sink.bytes.items; capacity = sink.capacity; most = sink.most; calls = sink.calls; faults = sink.faults } };
 
-    ghost invariant = { λ sink. 0 < sink.most };
+    ghost invariant = { λ sink. (0 < sink.most) × (vec_len sink.bytes ≤ sink.capacity) × (sink.capacity ≤ vec_capacity sink.bytes) };
 }
 
 impl MemSink {
-    /// A sink with no bytes, which takes at most `most` a call, and fails at the calls of these numbers, from 0.
-    pub fn new(alloc: Global, most: usize, failing: Sequence<u64>) -> MemSink
+    /// A sink with no bytes and room for `capacity`, which takes at most `most` a call, and fails at the calls of
+    /// these numbers, from 0. The only error is want of memory for the room.
+    pub fn new(
+        alloc: Global,
+        capacity: usize,
+        most: usize,
+        failing: Sequence<u64>,
+    ) -> Result<MemSink, AllocError>
         requires { 0 < most }
-        ensures { result ≡ record { written = []; most = most; failing = failing; calls = 0; faults = 0 } }
+        ensures { IfOk result (λ sink. sink ≡ record { written = []; capacity = capacity; most = most; calls = no_calls failing; faults = 0 }) }
     {
-        MemSink {
-            bytes: Vec::new(alloc),
+        Ok(MemSink {
+            bytes: Vec::with_capacity(alloc, capacity)?,
+            capacity,
             most,
-            failing,
-            calls: 0,
-            faults: 0,
-        }
+            calls: Calls::new(failing),
+            faults: FaultCount::new(),
+        })
     }
 
     /// The bytes that were written.
@@ -59,66 +67,50 @@ impl MemSink {
 
     /// How many calls there were, up to the greatest `u64`.
     pub fn calls(&self) -> u64
-        ensures { result ≡ self.now.calls }
+        ensures { result ≡ self.now.calls.count }
     {
-        self.calls
+        self.calls.count()
     }
 
     /// How often it has failed, up to the greatest `u64`.
     pub fn faults(&self) -> u64
         ensures { result ≡ self.now.faults }
     {
-        self.faults
+        self.faults.get()
     }
 }
 
 impl Sink for MemSink {
-    ghost use Rattle.std.specs.Prelude.{Some};
+    ghost use Rattle.store_mem.specs.MemStreams.{sink_state};
 
-    ghost written = { λ sink. Some sink.written };
-
-    ghost fault_count = { λ sink. sink.faults };
+    ghost state = { sink_state };
 
     fn write(&mut self, bytes: &[u8]) -> Sent
-        ensures exact { MemoryWrites self.old bytes.now result self.new }
-        ensures answer { Sends (Some self.old.written) bytes.now result (Some self.new.written) }
-        ensures cause { HasCause self.old.faults self.new.faults (result ≡ Sent.Failed) }
+        ensures exact { MemoryWrites self.old self.new result bytes.now }
+        ensures answer { Sends (Some self.old.written) (Some self.new.written) result bytes.now }
+        ensures cause { CountsFault self.old.faults self.new.faults (result ≡ Sent.Failed) }
     {
-        let fails = self.failing.as_slice().contains(&self.calls);
-        self.calls = self.calls.saturating_add(1);
-        let n = self.most.min(bytes.len());
-        if fails || self.bytes.extend_from_slice(&bytes[..n]).is_err() {
-            self.faults = self.faults.saturating_add(1);
+        let fails = self.calls.begin();
+        let room = self.capacity - self.bytes.len();
+        if fails || (room == 0 && !bytes.is_empty()) {
+            self.faults.raise();
             return Sent::Failed;
         }
+        let n = self.most.min(bytes.len().min(room));
+        push_in_room(&mut self.bytes, &bytes[..n]);
         Sent::Took(n)
     }
 }
 
-#[cfg(test)]
-mod tests {
-    use super::*;
-    use std::test::Fail;
-
-    #[test]
-    fn takes_a_byte_a_call(rt: HostRuntime) -> Result<(), Fail> {
-        let alloc = rt.alloc();
-        let failing = Sequence::from_vec(vec![in alloc; 1]?);
-        let mut sink = MemSink::new(alloc, 1, failing);
-        // the piece, the answer, and what is written then
-        let calls = [
-            ("abc", Sent::Took(1), "a"),
-            ("bc", Sent::Failed, "a"),
-            ("bc", Sent::Took(1), "ab"),
-            ("c", Sent::Took(1), "abc"),
-            ("", Sent::Took(0), "abc"),
-        ];
-        for (piece, answer, written) in calls {
-            assert_eq!(rt; sink.write(piece.as_bytes()), answer);
-            assert!(rt; sink.written() == written.as_bytes());
-        }
-        assert_eq!(rt; sink.calls(), 5);
-        assert_eq!(rt; sink.faults(), 1);
-        Ok(())
+// Adds bytes where there is room for them.
+fn push_in_room(held: &mut Vec<u8>, bytes: &[u8])
+    requires { vec_len held.old + length bytes.now ≤ vec_capacity held.old }
+    ensures items { held.new.items ≡ held.old.items ++ bytes.now }
+    ensures len { vec_len held.new ≡ vec_len held.old + length bytes.now }
+    ensures capacity { vec_capacity held.old ≤ vec_capacity held.new }
+{
+    match held.extend_from_slice(bytes) {
+        Ok(()) => {}
+        Err(_) => unreachable!(),
     }
 }

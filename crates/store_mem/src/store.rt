@@ -1,19 +1,20 @@
 // A store in memory.
-ghost use Rattle.std.specs.Prelude.{◌≡◌, ◌≢◌, ◌++◌, ◌<◌, ◌^◌, [], take, MatchOption, None, Some};
+ghost use Rattle.std.specs.Prelude.{◌≡◌, ◌≢◌, [], take, IfOk, MatchOption, None, Some};
 ghost use Rattle.std.specs.FinMap.{get, len};
-ghost use Rattle.hudi_base.specs.Faults.{HasCause};
+ghost use Rattle.hudi_base.specs.Faults.{CountsFault, one_more};
 ghost use Rattle.hudi_base.specs.Store.{Lists, Fetches, Creates, Appends, Removes};
-ghost use Rattle.store_mem.specs.Calls.{one_more};
-ghost use Rattle.store_mem.specs.MemStore.{MemoryStore, files_of, told_of, fails_next, left_by, MemoryCreates, MemoryAppends, MemoryRemoves};
+ghost use Rattle.store_mem.specs.Calls.{no_calls};
+ghost use Rattle.store_mem.specs.Files.{after_operations, no_operations, told_of};
+ghost use Rattle.store_mem.specs.MemStore.{files_of, left_by, MemoryCreates, MemoryAppends, MemoryRemoves};
 
-use crate::content::{front, piece};
+use crate::calls::Calls;
+use crate::content::{piece, prefix};
 use crate::history::History;
-use hudi_base::{Added, Bytes, Fetched, Gone, Listed, Made, Name, Operation, Sequence, Store};
-use std::alloc::Global;
+use hudi_base::{
+    Added, Bytes, FaultCount, Fetched, Gone, Listed, Made, Name, Operation, Sequence, Store,
+};
+use std::alloc::{AllocError, Global};
 use std::marker::Model;
-
-#[cfg(test)]
-mod tests;
 
 /// A store of files in memory, honest and telling everything, which fails where it is asked to.
 ///
@@ -22,15 +23,14 @@ mod tests;
 /// bytes of its piece (and is no operation where that is no byte). A call answers `Memory` where an allocation
 /// fails, and then has changed nothing but the number of changing calls.
 ///
-/// Contracts see the operations done, the numbers listed, how many bytes a failing append leaves, the number of
-/// changing calls so far and the number of failures, of which the last two stand at the greatest `u64` once there.
+/// Contracts see the files that it was given, the operations done since, the changing calls with those that are to
+/// fail, how many bytes a failing append leaves, and the number of failures.
 #[derive(Drop)]
 pub struct MemStore {
     history: History,
-    failing: Sequence<u64>,
+    changes: Calls,
     prefix: u64,
-    calls: u64,
-    faults: u64,
+    faults: FaultCount,
 }
 
 impl Model for MemStore {
@@ -38,13 +38,13 @@ impl Model for MemStore {
 
     ghost Value = { MemoryStore };
 
-    ghost view = { λ store. record { operations = store.history; failing = store.failing; prefix = store.prefix; calls = store.calls; faults = store.faults } };
+    ghost view = { λ store. record { history = store.history; changes = store.changes; prefix = store.prefix; faults = store.faults } };
 }
 
 impl MemStore {
     /// A store with no files, which never fails.
     pub fn new(alloc: Global) -> MemStore
-        ensures { result ≡ record { operations = []; failing = []; prefix = 0; calls = 0; faults = 0 } }
+        ensures { result ≡ record { history = no_operations []; changes = no_calls []; prefix = 0; faults = 0 } }
     {
         MemStore::with_failures(alloc, Sequence::new(alloc), 0)
     }
@@ -52,15 +52,36 @@ impl MemStore {
     /// A store with no files. The changing calls of these numbers, from 0, fail; a failing append leaves the first
     /// `prefix` bytes of its piece, or all where there are fewer.
     pub fn with_failures(alloc: Global, failing: Sequence<u64>, prefix: u64) -> MemStore
-        ensures { result ≡ record { operations = []; failing = failing; prefix = prefix; calls = 0; faults = 0 } }
+        ensures { result ≡ record { history = no_operations []; changes = no_calls failing; prefix = prefix; faults = 0 } }
     {
         MemStore {
             history: History::new(alloc),
-            failing,
+            changes: Calls::new(failing),
             prefix,
-            calls: 0,
-            faults: 0,
+            faults: FaultCount::new(),
         }
+    }
+
+    /// A store that begins with these files and never fails. Of one name the last stands. The only error is want of
+    /// memory.
+    pub fn with_files(alloc: Global, files: Sequence<(Name, Bytes)>) -> Result<MemStore, AllocError>
+        ensures { IfOk result (λ store. store ≡ record { history = no_operations files; changes = no_calls []; prefix = 0; faults = 0 }) }
+    {
+        Ok(MemStore {
+            history: History::with_files(alloc, files)?,
+            changes: Calls::new(Sequence::new(alloc)),
+            prefix: 0,
+            faults: FaultCount::new(),
+        })
+    }
+
+    /// From now on the changing calls of these numbers fail, counted from 0 anew; a failing append leaves the first
+    /// `prefix` bytes of its piece, or all where there are fewer.
+    pub fn plan_failures(&mut self, failing: Sequence<u64>, prefix: u64)
+        ensures { self.new ≡ record self.old { changes = no_calls failing; prefix = prefix } }
+    {
+        self.changes = Calls::new(failing);
+        self.prefix = prefix;
     }
 
     /// The bytes of a file, where there is one of that name.
@@ -79,25 +100,25 @@ impl MemStore {
 
     /// The operations done, in order. One that a failing append left stands among them.
     pub fn operations(&self) -> &[Operation]
-        ensures { result.now ≡ self.now.operations }
+        ensures { result.now ≡ self.now.history.operations }
     {
         self.history.operations()
     }
 
-    /// How many changing calls there were, up to the greatest `u64`.
+    /// How many changing calls there were, since the failures were planned, up to the greatest `u64`.
     pub fn calls(&self) -> u64
-        ensures { result ≡ self.now.calls }
+        ensures { result ≡ self.now.changes.count }
     {
-        self.calls
+        self.changes.count()
     }
 
     // Makes a file.
     fn create_file(&mut self, alloc: Global, name: &Name, bytes: &[u8]) -> Made
-        ensures exact { MemoryCreates self.old name.now bytes.now result self.new }
-        ensures faults { self.old.faults < 2 ^ 64 }
+        ensures exact { MemoryCreates self.old self.new name.now bytes.now result }
+        ensures cause { CountsFault self.old.faults self.new.faults (result ≡ Made.Failed) }
     {
-        if self.begin_call() {
-            self.count_fault();
+        if self.changes.begin() {
+            self.faults.raise();
             return Made::Failed;
         }
         if self.history.has(name) {
@@ -109,12 +130,12 @@ impl MemStore {
         }
     }
 
-    // Adds bytes at the end of a file, or the front of them where the call is to fail.
+    // Adds bytes at the end of a file, or a prefix of them where the call is to fail.
     fn append_to_file(&mut self, alloc: Global, name: &Name, bytes: &[u8]) -> Added
-        ensures exact { MemoryAppends self.old name.now bytes.now result self.new }
-        ensures faults { self.old.faults < 2 ^ 64 }
+        ensures exact { MemoryAppends self.old self.new name.now bytes.now result }
+        ensures cause { CountsFault self.old.faults self.new.faults (result ≡ Added.Failed) }
     {
-        if self.begin_call() {
+        if self.changes.begin() {
             return self.fail_append(alloc, name, bytes);
         }
         match self.history.append(alloc, name, bytes) {
@@ -123,13 +144,30 @@ impl MemStore {
         }
     }
 
+    // Leaves the prefix that a failing append leaves.
+    fn fail_append(&mut self, alloc: Global, name: &Name, bytes: &[u8]) -> Added
+        ensures failed { result ≡ Added.Failed → self.new ≡ record self.old { history = after_operations self.old.history (left_by name.now (take self.old.prefix bytes.now)); faults = one_more self.old.faults } }
+        ensures memory { result ≡ Added.Memory → self.new ≡ self.old }
+        ensures fails { result ≢ Added.Added }
+        ensures cause { CountsFault self.old.faults self.new.faults (result ≡ Added.Failed) }
+    {
+        let left = prefix(bytes, self.prefix);
+        if !left.is_empty() {
+            if self.history.append(alloc, name, left).is_err() {
+                return Added::Memory;
+            }
+        }
+        self.faults.raise();
+        Added::Failed
+    }
+
     // Removes a file.
     fn remove_file(&mut self, alloc: Global, name: &Name) -> Gone
-        ensures exact { MemoryRemoves self.old name.now result self.new }
-        ensures faults { self.old.faults < 2 ^ 64 }
+        ensures exact { MemoryRemoves self.old self.new name.now result }
+        ensures cause { CountsFault self.old.faults self.new.faults (result ≡ Gone.Failed) }
     {
-        if self.begin_call() {
-            self.count_fault();
+        if self.changes.begin() {
+            self.faults.raise();
             return Gone::Failed;
         }
         if !self.history.has(name) {
@@ -140,58 +178,21 @@ impl MemStore {
             Err(_) => Gone::Memory,
         }
     }
-
-    // Counts a changing call, and says whether it is to fail.
-    fn begin_call(&mut self) -> bool
-        ensures fails { result ≡ fails_next self.old }
-        ensures counted { self.new ≡ record self.old { calls = one_more self.old.calls } }
-        ensures faults { self.old.faults < 2 ^ 64 }
-    {
-        // A proof learns the range of a number where it is read.
-        let _faults = self.faults;
-        let fails = self.failing.as_slice().contains(&self.calls);
-        self.calls = self.calls.saturating_add(1);
-        fails
-    }
-
-    // Leaves the front of the bytes that a failing append leaves.
-    fn fail_append(&mut self, alloc: Global, name: &Name, bytes: &[u8]) -> Added
-        ensures failed { result ≡ Added.Failed → self.new ≡ record self.old { operations = self.old.operations ++ left_by name.now (take self.old.prefix bytes.now); faults = one_more self.old.faults } }
-        ensures memory { result ≡ Added.Memory → self.new ≡ self.old }
-        ensures fails { result ≢ Added.Added }
-    {
-        let left = front(bytes, self.prefix);
-        if !left.is_empty() {
-            if self.history.append(alloc, name, left).is_err() {
-                return Added::Memory;
-            }
-        }
-        self.count_fault();
-        Added::Failed
-    }
-
-    // Counts a failure.
-    fn count_fault(&mut self)
-        ensures { self.new ≡ record self.old { faults = one_more self.old.faults } }
-    {
-        self.faults = self.faults.saturating_add(1);
-    }
 }
 
 impl Store for MemStore {
     ghost use Rattle.std.specs.Prelude.{refl};
-    ghost use Rattle.store_mem.specs.MemStore.{told_of};
+    ghost use Rattle.store_mem.specs.MemStore.{state_of};
 
-    ghost told = { told_of };
+    ghost state = { state_of };
 
     ghost is_honest = { λ _. Unit {0} };
 
-    ghost fault_count = { λ store. store.faults };
-
     ghost replayed = { λ _. refl };
 
+    #[tactic(auto, using(crate::proofs::FilesLemmas::sizes_rise))]
     fn list(&mut self, alloc: Global) -> Listed
-        ensures answer { Lists (told_of self.old) result }
+        ensures answer { Lists (told_of self.old.history) result }
         ensures same { self.new ≡ self.old }
         ensures never_fails { result ≢ Listed.Failed }
     {
@@ -202,7 +203,7 @@ impl Store for MemStore {
     }
 
     fn read(&mut self, alloc: Global, name: &Name, at: u64, len: u64) -> Fetched
-        ensures answer { Fetches (told_of self.old) name.now at len result }
+        ensures answer { Fetches (told_of self.old.history) name.now at len result }
         ensures same { self.new ≡ self.old }
         ensures never_fails { result ≢ Fetched.Failed }
     {
@@ -217,33 +218,33 @@ impl Store for MemStore {
 
     #[tactic(auto, using(crate::proofs::MemStoreLemmas::answers_create))]
     fn create(&mut self, alloc: Global, name: &Name, bytes: &[u8]) -> Made
-        ensures exact { MemoryCreates self.old name.now bytes.now result self.new }
-        ensures answer { Creates (Unit {0}) (told_of self.old) name.now bytes.now result (told_of self.new) }
-        ensures cause { HasCause self.old.faults self.new.faults (result ≡ Made.Failed) }
+        ensures exact { MemoryCreates self.old self.new name.now bytes.now result }
+        ensures answer { Creates (Unit {0}) (told_of self.old.history) (told_of self.new.history) name.now bytes.now result }
+        ensures cause { CountsFault self.old.faults self.new.faults (result ≡ Made.Failed) }
     {
         self.create_file(alloc, name, bytes)
     }
 
     #[tactic(auto, using(crate::proofs::MemStoreLemmas::answers_append))]
     fn append(&mut self, alloc: Global, name: &Name, bytes: &[u8]) -> Added
-        ensures exact { MemoryAppends self.old name.now bytes.now result self.new }
-        ensures answer { Appends (Unit {0}) (told_of self.old) name.now bytes.now result (told_of self.new) }
-        ensures cause { HasCause self.old.faults self.new.faults (result ≡ Added.Failed) }
+        ensures exact { MemoryAppends self.old self.new name.now bytes.now result }
+        ensures answer { Appends (Unit {0}) (told_of self.old.history) (told_of self.new.history) name.now bytes.now result }
+        ensures cause { CountsFault self.old.faults self.new.faults (result ≡ Added.Failed) }
     {
         self.append_to_file(alloc, name, bytes)
     }
 
     #[tactic(auto, using(crate::proofs::MemStoreLemmas::answers_remove))]
     fn remove(&mut self, alloc: Global, name: &Name) -> Gone
-        ensures exact { MemoryRemoves self.old name.now result self.new }
-        ensures answer { Removes (Unit {0}) (told_of self.old) name.now result (told_of self.new) }
-        ensures cause { HasCause self.old.faults self.new.faults (result ≡ Gone.Failed) }
+        ensures exact { MemoryRemoves self.old self.new name.now result }
+        ensures answer { Removes (Unit {0}) (told_of self.old.history) (told_of self.new.history) name.now result }
+        ensures cause { CountsFault self.old.faults self.new.faults (result ≡ Gone.Failed) }
     {
         self.remove_file(alloc, name)
     }
 
     fn faults(&self) -> u64 {
-        self.faults
+        self.faults.get()
     }
 
     fn done(&self) -> u64 {

@@ -1,4 +1,4 @@
-use Rattle.log_block.proofs.Fronts.{block_bytes-append}
+use Rattle.log_block.proofs.Blocks.{block_bytes-append}
 use Rattle.log_block.proofs.laws.one_form.Goals as goal
 
 pub returns : goal.returns

@@ -2,7 +2,7 @@ use Rattle.std.proofs.Common.{◌∙◌, sym, ap, refl, IsSome, OnErr, Result, O
 use Rattle.std.specs.FinMap.{insert}
 use Rattle.std.specs.BTreeMap.{is_at}
 use Rattle.std.proofs.lemmas.Map.Steps.{set_value_same}
-use Rattle.store_mem.specs.Files.{files_in}
+use Rattle.store_mem.specs.Entries.{files_in}
 use Rattle.store_mem.proofs.FilesLemmas.{by_bytes, extended, absent_content}
 use Rattle.store_mem.proofs.files.extend.Goals as goal
 

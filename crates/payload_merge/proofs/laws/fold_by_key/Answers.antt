@@ -1,5 +1,0 @@
-use Rattle.payload_merge.proofs.Tables.{get-fold}
-use Rattle.payload_merge.proofs.laws.fold_by_key.Goals as goal
-
-pub returns : goal.returns
-returns c = get-fold

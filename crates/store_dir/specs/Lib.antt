@@ -1,0 +1,2 @@
+pub mod DirState
+pub mod ExactCounts
