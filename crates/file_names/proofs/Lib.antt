@@ -1,0 +1,3 @@
+pub mod FileIdLemmas
+pub mod IdTexts
+pub mod NameTexts

@@ -1,0 +1,27 @@
+// Why there is no name.
+ghost use Rattle.std.specs.Prelude.{◌≡◌};
+ghost use Rattle.file_names.specs.declared.name_error.NameError.TheVariants.{Memory};
+
+use std::alloc::{AllocError, AllocFailed};
+
+/// The only error is want of memory.
+#[derive(Clone, Copy, Debug, PartialEq, Eq)]
+pub enum NameError {
+    Memory,
+}
+
+impl From<AllocError> for NameError {
+    ghost from_gives = { λ _ error. error ≡ Memory };
+
+    fn from(_: AllocError) -> NameError {
+        NameError::Memory
+    }
+}
+
+impl<T: Drop> From<AllocFailed<T>> for NameError {
+    ghost from_gives = { λ _ error. error ≡ Memory };
+
+    fn from(_: AllocFailed<T>) -> NameError {
+        NameError::Memory
+    }
+}
