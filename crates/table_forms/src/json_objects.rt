@@ -1,10 +1,12 @@
 // JSON objects with exactly the members that are expected.
-ghost use Rattle.std.specs.Prelude.{◌≡◌, IfOk, option_map, map, not, string_bytes};
+ghost use Rattle.std.specs.Prelude.{◌≡◌, IfOk, option_map, map, not, string_bytes, IfSome};
 ghost use Rattle.std.specs.List.{list_any, find};
 ghost use Rattle.std.specs.Str.{bytes_eq};
 ghost use Rattle.std.specs.BTreeMap.{keys};
+ghost use Rattle.std.specs.List.Sorted.{IsStrictlySortedBy};
+ghost use Rattle.std.specs.String.{string_cmp};
 ghost use Rattle.serde_json.specs.View.{view, items_view};
-ghost use Rattle.table_forms.specs.JsonObjects.{json_of, least_unknown, lesser_name, text_at, number_at, items_at};
+ghost use Rattle.table_forms.specs.JsonObjects.{json_of, least_unknown, IsLeastUnknown, lesser_name, text_at, number_at, items_at};
 
 use serde_json::{Map, Value};
 use std::alloc::{AllocError, Global};
@@ -33,8 +35,9 @@ fn is_known(known: &[&str], name: &str) -> bool
 
 // The first name of a map that isn't one of these.
 fn first_unknown<'a>(known: &[&str], members: &'a Map<String, Value>) -> Option<&'a str>
-    ensures { option_map (λ name. name.now) result
+    ensures value { option_map (λ name. name.now) result
         ≡ find (λ name. not (list_any (λ k. bytes_eq k.now name) known.now)) (map string_bytes (keys members.now)) }
+    ensures ordered { IsStrictlySortedBy string_cmp (keys members.now) }
 {
     for name in members.keys() {
         if !is_known(known, name.as_str()) {
@@ -47,7 +50,8 @@ fn first_unknown<'a>(known: &[&str], members: &'a Map<String, Value>) -> Option<
 /// The first member, in byte order, with none of these names.
 #[tactic(auto, unfolding(crate::specs::JsonObjects::least_unknown))]
 pub fn least_unknown<'a>(known: &[&str], value: &'a Value) -> Option<&'a str>
-    ensures { option_map (λ name. name.now) result ≡ least_unknown (map (λ name. name.now) known.now) (view value.now) }
+    ensures value { option_map (λ name. name.now) result ≡ least_unknown (map (λ name. name.now) known.now) (view value.now) }
+    ensures least { IfSome result (λ name. IsLeastUnknown (map (λ k. k.now) known.now) (view value.now) name.now) }
 {
     match value.as_object() {
         Some(members) => first_unknown(known, members),

@@ -4,8 +4,8 @@ use Rattle.std.specs.Str.{bytes_eq}
 use Rattle.table_forms.proofs.JsonObjectLemmas.{find_first, find_later}
 use Rattle.table_forms.proofs.json_objects.first_unknown.Goals as goal
 
-pub returns-then-not-is_known : goal.returns-then-not-is_known
-returns-then-not-is_known c =
+pub returns-then-not-is_known-clause-value : goal.returns-then-not-is_known-clause-value
+returns-then-not-is_known-clause-value c =
     let test : List ℕ → Bool = λ name. not (list_any (λ (k : Bor (List ℕ)). bytes_eq k.now name) c.args.known.now) in
     let passes : test (string_bytes c.in-Some.name.now) ≡ true =
     ap test (sym c.as_str.ensures.value) ∙ ap not (sym c.is_known.ensures ∙ c.if-not-is_known.true) in
