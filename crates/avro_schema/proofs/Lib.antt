@@ -1,0 +1,7 @@
+pub mod HeadLemmas
+pub mod Lists
+pub mod Loops
+pub mod TypeJson
+pub mod Steps
+pub mod HeadsAgain
+pub mod TypesAgain

@@ -1,0 +1,9 @@
+pub mod AvroTypes
+pub mod Names
+pub mod Heads
+pub mod SchemaTexts
+pub mod HeadViews
+pub mod Grammar
+pub mod Written
+pub mod Fits
+pub mod Reading

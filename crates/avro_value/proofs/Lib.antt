@@ -1,0 +1,11 @@
+pub mod Loops
+pub mod Branches
+pub mod PrimitiveLemmas
+pub mod BlockLemmas
+pub mod Values
+pub mod Types
+pub mod WrittenLemmas
+pub mod DecodeLemmas
+pub mod FitLemmas
+pub mod ReadingsFit
+pub mod Within
