@@ -1,0 +1,5 @@
+pub mod ReadingLemmas
+pub mod WritingLemmas
+pub mod ReadBackLemmas
+pub mod HeaderLemmas
+pub mod FooterLemmas

@@ -1,0 +1,9 @@
+pub mod Answers
+pub mod Footers
+pub mod PageHeaders
+pub mod Reading
+pub mod Results
+pub mod StaysLaws
+pub mod Writers
+pub mod Written
+pub mod ReadBack

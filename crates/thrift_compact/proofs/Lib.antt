@@ -1,0 +1,3 @@
+pub mod WithinLemmas
+pub mod FieldsLemmas
+pub mod GrammarLemmas
