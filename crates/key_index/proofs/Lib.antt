@@ -1,0 +1,3 @@
+pub mod GroupLists
+pub mod FirstGroups
+pub mod TileRunLemmas

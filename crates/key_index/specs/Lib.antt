@@ -1,0 +1,3 @@
+pub mod Slots
+pub mod Tiling
+pub mod TileRuns
