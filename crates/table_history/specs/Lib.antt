@@ -1,0 +1,12 @@
+pub mod After
+pub mod Answers
+pub mod Concerns
+pub mod Histories
+pub mod Instants
+pub mod JobLaw
+pub mod Logs
+pub mod Operations
+pub mod Pins
+pub mod Tables
+pub mod Targets
+pub mod Times

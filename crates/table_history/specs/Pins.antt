@@ -1,0 +1,90 @@
+-- Pins, and the views that they keep.
+use Rattle.std.specs.Prelude.{◌≡◌, ℕ, Bool, true, false, ◌+◌, ◌==◌, nat_le, nat_lt, if◌then◌else◌, List, [], ◌∷◌, length, filter, reverse, map, slice_get, Option, Some, None}
+use Rattle.std.specs.List.{flat_map}
+use Rattle.hudi_base.specs.declared.file_group.GroupRef.{GroupRef}
+use Rattle.hudi_base.specs.declared.file_group.Target.{Target}
+use Rattle.file_names.specs.FileName.{name_of}
+use Rattle.file_names.specs.declared.file_name.FileName.TheVariants.{Log}
+use Rattle.table_history.specs.Histories.{History}
+use Rattle.table_history.specs.Instants.{completed_instants, latest}
+use Rattle.table_history.specs.Logs.{LogFile, logs_of}
+use Rattle.table_history.specs.Tables.{Table}
+use Rattle.table_history.specs.Targets.{one_group}
+use Rattle.table_history.specs.declared.job.Job.{Job}
+use Rattle.table_history.specs.declared.reply.Reply.{Reply}
+use Rattle.table_history.specs.declared.reply.Reply.TheVariants.{Pinned, Done}
+use Rattle.table_history.specs.declared.step.Step.{Step}
+use Rattle.table_history.specs.declared.step.Step.TheVariants.{Pin, Unpin}
+use Rattle.table_history.specs.declared.view.GroupParts.{GroupParts}
+use Rattle.table_history.specs.declared.view.LivePin.{LivePin}
+use Rattle.table_history.specs.declared.view.Part.{Part}
+use Rattle.table_history.specs.declared.view.View.{View}
+
+-- how many pins the session has had
+abbrev pub pins_made : History → ℕ
+pins_made [] = 0
+pins_made (e ∷ H) = after e.reply (pins_made H)
+  where
+    after : Reply → ℕ → ℕ
+    after (Pinned view) before = before + 1
+    after _ before = before
+
+-- what an entry makes of the pin p
+abbrev pub pin_after : ℕ → Job → Step → Reply → Option LivePin → Option LivePin
+pin_after p job (Pin at bases_only) (Pinned view) before = if view.pin == p then Some (record { job = job; view = view }) else before
+pin_after p job (Unpin q) Done before = if q == p then None else before
+pin_after p job _ _ before = before
+
+abbrev pub pin_of : History → ℕ → Option LivePin
+pin_of [] p = None
+pin_of (e ∷ H) p = pin_after p e.job e.step e.reply (pin_of H p)
+
+-- the files of a view, in order: their numbers are their places
+abbrev pub files_of_view : View → List Part
+files_of_view view = flat_map (λ g. g.parts) view.groups
+
+-- ---- what a pin sees
+
+-- the completed instants up to a time, in order
+abbrev pub completed_up_to : Table → History → ℕ → List ℕ
+completed_up_to A H t = reverse (filter (λ u. nat_le u t) (completed_instants A H))
+
+-- The groups of the tiles at a time, by partition and first slot. For now it is one.
+abbrev pub groups_at : Table → History → ℕ → List GroupRef
+groups_at A H t = one_group ∷ []
+
+-- a log as a part of a view
+abbrev pub part_of : Table → Target → LogFile → Part
+part_of A s log = record { name = name_of A.name (Log s.group s.slice log.version (record { session = log.session; attempt = log.attempt })); length = log.length; base = false }
+
+-- The chain of a group at a time: its base, and the logs of the slices from the base's time on, by slice and version. For
+-- now there are no bases, and a group has one slice.
+abbrev pub chain_at : Table → History → GroupRef → ℕ → Bool → List Part
+chain_at A H group t true = []
+chain_at A H group t false = map (part_of A (record { group = group; slice = group.born })) (reverse (logs_of A H (record { group = group; slice = group.born })))
+
+-- the groups that have a file, each with its chain; none where no instant is pinned
+abbrev pub view_groups : Table → History → Option ℕ → Bool → List GroupParts
+view_groups A H None bases_only = []
+view_groups A H (Some t) bases_only =
+    filter (λ g. nat_lt 0 (length g.parts)) (map (λ group. record { group = group; parts = chain_at A H group t bases_only }) (groups_at A H t))
+
+-- the instant that a pin is at: the named one, else the latest
+abbrev pub pinned_instant : Table → History → Option ℕ → Option ℕ
+pinned_instant A H None = latest A H
+pinned_instant A H (Some t) = Some t
+
+abbrev pub completed_for : Table → History → Option ℕ → List ℕ
+completed_for A H None = []
+completed_for A H (Some t) = completed_up_to A H t
+
+-- the view of a pin
+pub record IsView (A : Table) (H : History) (at : Option ℕ) (bases_only : Bool) (view : View) : Type 0 where
+  pub pin : view.pin ≡ pins_made H + 1
+  pub t : view.t ≡ pinned_instant A H at
+  pub groups : view.groups ≡ view_groups A H view.t bases_only
+  pub completed : view.completed ≡ completed_for A H view.t
+
+-- a file of a live pin's view
+abbrev pub part_at : View → ℕ → Option Part
+part_at view file = slice_get (files_of_view view) file
