@@ -102,19 +102,19 @@ civil_at-civil_text c =
     same_civil (civil_at (civil_text c)) c (omega arith) (omega arith) (omega arith) (omega arith) (omega arith) (omega arith) (omega arith)
 
 -- the ends of a text, each from one field on
-abbrev from_second : Civil → List ℕ
+abbrev pub from_second : Civil → List ℕ
 from_second c = two_digits c.second ++ three_digits c.milli
 
-abbrev from_minute : Civil → List ℕ
+abbrev pub from_minute : Civil → List ℕ
 from_minute c = two_digits c.minute ++ from_second c
 
-abbrev from_hour : Civil → List ℕ
+abbrev pub from_hour : Civil → List ℕ
 from_hour c = two_digits c.hour ++ from_minute c
 
-abbrev from_day : Civil → List ℕ
+abbrev pub from_day : Civil → List ℕ
 from_day c = two_digits c.day ++ from_hour c
 
-abbrev from_month : Civil → List ℕ
+abbrev pub from_month : Civil → List ℕ
 from_month c = two_digits c.month ++ from_day c
 
 two_more : (n : ℕ) (rest : List ℕ) → n < 100 → All IsAsciiDigit rest → All IsAsciiDigit (digit (n / 10) ∷ digit (n % 10) ∷ rest)

@@ -1,3 +1,4 @@
+use Rattle.hudi_base.proofs.TimeOrder as order
 use Rattle.hudi_base.proofs.Times as times
 use Rattle.hudi_base.proofs.time_laws.times_and_texts_agree.Goals as goal
 
@@ -7,6 +8,7 @@ returns c = record {
   digits = times.All-time_text;
   utf8 = times.IsUtf8-time_text;
   injective = times.time_text_injective;
+  ordered = order.time_text_ordered;
   right = times.goes_wrong-time_text;
   times_alone = times.IsTime-goes_wrong;
   texts_alone = times.time_text-civil_at;
