@@ -13,7 +13,7 @@ pub struct SlotRange {
 
 /// A file group: the keys of a partition whose hash slots are from `lo` to `hi`, both included. `born` is the time
 /// of the replacecommit that made it, or the first time for a group that the table began with.
-#[derive(Drop)]
+#[derive(PartialEq, Eq, PartialOrd, Ord, Drop)]
 pub struct GroupRef {
     pub partition: Name,
     pub lo: u16,
@@ -36,7 +36,7 @@ impl GroupRef {
 }
 
 /// A file group and the file slice in it that new blocks go to.
-#[derive(Drop)]
+#[derive(PartialEq, Eq, PartialOrd, Ord, Drop)]
 pub struct Target {
     pub group: GroupRef,
     pub slice: InstantTime,
