@@ -5,3 +5,4 @@ pub mod TypeJson
 pub mod Steps
 pub mod HeadsAgain
 pub mod TypesAgain
+pub mod NameListLemmas

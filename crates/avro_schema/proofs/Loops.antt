@@ -83,24 +83,33 @@ module _ (read_head : Data → Result Head SchemaError) (grow : Head → Result 
     abbrev Fields_left : Type 0
     Fields_left = fields_from read_head grow (map field_of found) (items_view (drop i values)) ≡ told
 
-    next_field : (value : Value) → i < length values → value ≡ get_or values i value → Fields_left
-        → (at_position (length found) (field_after read_head grow (map field_of found) (view value)) >>= λ next. fields_from read_head grow (map field_of found ++ next ∷ []) (items_view (drop (i + 1) values))) ≡ told
+    -- the names of the fields so far
+    abbrev AreNames : List (List ℕ) → Type 0
+    AreNames names = names ≡ map (λ f. f.0) (map field_of found)
+
+    placed_by_names : (names : List (List ℕ)) (value : Value) → AreNames names
+        → at_position (length names) (field_after read_head grow names (view value)) ≡ at_position (length (map field_of found)) (field_after read_head grow (map (λ f. f.0) (map field_of found)) (view value))
+    placed_by_names names value are =
+        ap (λ (ns : List (List ℕ)). at_position (length ns) (field_after read_head grow ns (view value))) are
+        ∙ ap (λ (n : ℕ). at_position n (field_after read_head grow (map (λ f. f.0) (map field_of found)) (view value))) (length-map (map field_of found) (λ f. f.0))
+
+    next_field : (names : List (List ℕ)) (value : Value) → AreNames names → i < length values → value ≡ get_or values i value → Fields_left
+        → (at_position (length names) (field_after read_head grow names (view value)) >>= λ next. fields_from read_head grow (map field_of found ++ next ∷ []) (items_view (drop (i + 1) values))) ≡ told
     unfolding fields_from
-    next_field value below is so_far =
-        ap (λ (n : ℕ). at_position n (field_after read_head grow (map field_of found) (view value)) >>= λ next. fields_from read_head grow (map field_of found ++ next ∷ []) (items_view (drop (i + 1) values))) (sym (length-map found field_of))
+    next_field names value are below is so_far =
+        ap (λ r. r >>= λ next. fields_from read_head grow (map field_of found ++ next ∷ []) (items_view (drop (i + 1) values))) (placed_by_names names value are)
         ∙ sym (ap (fields_from read_head grow (map field_of found)) (one_left values i value below is)) ∙ so_far
 
-    pub fields_go_on : (value : Value) (next : Field) → i < length values → value ≡ get_or values i value → Fields_left
-        → at_position (length found) (field_after read_head grow (map field_of found) (view value)) ≡ Ok (field_of next) → fields_from read_head grow (map field_of (found ++ next ∷ [])) (items_view (drop (i + 1) values)) ≡ told
-    fields_go_on value next below is so_far e =
-        ap (λ (fs : List (List ℕ × AvroType)). fields_from read_head grow fs (items_view (drop (i + 1) values))) (map_push field_of found next)
-        ∙ sym (bind_to _ (field_of next) (λ next. fields_from read_head grow (map field_of found ++ next ∷ []) (items_view (drop (i + 1) values))) e)
-        ∙ next_field value below is so_far
+    pub fields_go_on : (names : List (List ℕ)) (value : Value) (next : List ℕ × AvroType) → AreNames names → i < length values → value ≡ get_or values i value → Fields_left
+        → at_position (length names) (field_after read_head grow names (view value)) ≡ Ok next → fields_from read_head grow (map field_of found ++ next ∷ []) (items_view (drop (i + 1) values)) ≡ told
+    fields_go_on names value next are below is so_far e =
+        sym (bind_to _ next (λ next. fields_from read_head grow (map field_of found ++ next ∷ []) (items_view (drop (i + 1) values))) e)
+        ∙ next_field names value are below is so_far
 
-    pub fields_fail : (value : Value) (error : SchemaError) → i < length values → value ≡ get_or values i value → Fields_left
-        → Fails error (at_position (length found) (field_after read_head grow (map field_of found) (view value))) → Fails error told
-    fields_fail value error below is so_far fails =
-        Fails_is error _ told (next_field value below is so_far) (Fails_then error (at_position (length found) (field_after read_head grow (map field_of found) (view value))) _ fails)
+    pub fields_fail : (names : List (List ℕ)) (value : Value) (error : SchemaError) → AreNames names → i < length values → value ≡ get_or values i value → Fields_left
+        → Fails error (at_position (length names) (field_after read_head grow names (view value))) → Fails error told
+    fields_fail names value error are below is so_far fails =
+        Fails_is error _ told (next_field names value are below is so_far) (Fails_then error (at_position (length names) (field_after read_head grow names (view value))) _ fails)
 
     pub fields_done : length values ≤ i → Fields_left → told ≡ Ok (map field_of found)
     unfolding fields_from

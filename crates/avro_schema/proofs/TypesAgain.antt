@@ -125,25 +125,25 @@ branches_again n again found (item d ds) types e =
     }
 
 -- a field, whose JSON says the same
-field_again : (n : ℕ) → Again n → (found : List (List ℕ × AvroType)) (d : Data) (f : List ℕ × AvroType) → field_after (head_within n) (type_within n) found d ≡ Ok f
-    → (field_after (head_within n) (type_within n) found (field_json f.0 (type_json f.1)) ≡ Ok f) × IsAgain n f.1
+field_again : (n : ℕ) → Again n → (names : List (List ℕ)) (d : Data) (f : List ℕ × AvroType) → field_after (head_within n) (type_within n) names d ≡ Ok f
+    → (field_after (head_within n) (type_within n) names (field_json f.0 (type_json f.1)) ≡ Ok f) × IsAgain n f.1
 unfolding field_after field_head_after least_unknown
-field_again n again found d f e =
-    let head = bind_Ok (field_head_after found d) (λ head. inner_type (head_within n) (type_within n) head.1 >>= λ type. Ok (head.0, type)) f e in
+field_again n again names d f e =
+    let head = bind_Ok (field_head_after names d) (λ head. inner_type (head_within n) (type_within n) head.1 >>= λ type. Ok (head.0, type)) f e in
     let type = bind_Ok (inner_type (head_within n) (type_within n) head.0.1) (λ type. Ok (head.0.0, type)) f head.2 in
     let same : (head.0.0, type.0) ≡ f = ok_of (head.0.0, type.0) f type.2 in
-    let names : head.0.0 ≡ f.0 = ap (λ (p : List ℕ × AvroType). p.0) same in
+    let same_name : head.0.0 ≡ f.0 = ap (λ (p : List ℕ × AvroType). p.0) same in
     let types : type.0 ≡ f.1 = ap (λ (p : List ℕ × AvroType). p.1) same in
     let is = subst (IsAgain n) types (inner_again n again head.0.1 type.0 type.1) in
     let known : Bool = has_only (codes "name" ∷ codes "type" ∷ []) d in
-    let name = bind_Ok (name_in d) (λ name. only_some (get (codes "type") d) >>= λ inner. only_if (not (is_among (list.map (λ f. f.0) found) name) && known) (name, inner)) head.0 head.1 in
-    let inner = bind_Ok (only_some (get (codes "type") d)) (λ inner. only_if (not (is_among (list.map (λ f. f.0) found) name.0) && known) (name.0, inner)) head.0 name.2 in
-    let passed = only_if_Ok (not (is_among (list.map (λ f. f.0) found) name.0) && known) (name.0, inner.0) head.0 inner.2 in
-    let own : name.0 ≡ f.0 = ap (λ (p : List ℕ × Data). p.0) passed.1 ∙ names in
+    let name = bind_Ok (name_in d) (λ name. only_some (get (codes "type") d) >>= λ inner. only_if (not (is_among names name) && known) (name, inner)) head.0 head.1 in
+    let inner = bind_Ok (only_some (get (codes "type") d)) (λ inner. only_if (not (is_among names name.0) && known) (name.0, inner)) head.0 name.2 in
+    let passed = only_if_Ok (not (is_among names name.0) && known) (name.0, inner.0) head.0 inner.2 in
+    let own : name.0 ≡ f.0 = ap (λ (p : List ℕ × Data). p.0) passed.1 ∙ same_name in
     let is_own_name : is_name f.0 ≡ true = subst (λ (t : List ℕ). is_name t ≡ true) own (name_in_is d name.0 name.1) in
-    let is_new : not (is_among (list.map (λ f. f.0) found) f.0) ≡ true = subst (λ (t : List ℕ). not (is_among (list.map (λ f. f.0) found) t) ≡ true) own (and_true (not (is_among (list.map (λ f. f.0) found) name.0)) known passed.0).0 in
-    let head_read : field_head_after found (field_json f.0 (type_json f.1)) ≡ Ok (f.0, type_json f.1) = rw (is_own_name, is_new) refl in (
-      bind_to (field_head_after found (field_json f.0 (type_json f.1))) (f.0, type_json f.1) (λ head. inner_type (head_within n) (type_within n) head.1 >>= λ type. Ok (head.0, type)) head_read
+    let is_new : not (is_among names f.0) ≡ true = subst (λ (t : List ℕ). not (is_among names t) ≡ true) own (and_true (not (is_among names name.0)) known passed.0).0 in
+    let head_read : field_head_after names (field_json f.0 (type_json f.1)) ≡ Ok (f.0, type_json f.1) = rw (is_own_name, is_new) refl in (
+      bind_to (field_head_after names (field_json f.0 (type_json f.1))) (f.0, type_json f.1) (λ head. inner_type (head_within n) (type_within n) head.1 >>= λ type. Ok (head.0, type)) head_read
           ∙ bind_to (inner_type (head_within n) (type_within n) (type_json f.1)) f.1 (λ type. Ok (f.0, type)) (inner_read n f.1 is),
       is,
     )
@@ -153,14 +153,14 @@ unfolding fields_from
 fields_again n again found no_items fs e =
     record { new = []; all = sym (ok_of found fs e) ∙ sym (append-nil found); read = e; deep = omega arith }
 fields_again n again found (item d ds) fs e =
-    let first = bind_Ok (at_position (length found) (field_after (head_within n) (type_within n) found d)) (λ next. fields_from (head_within n) (type_within n) (found ++ next ∷ []) ds) fs e in
+    let first = bind_Ok (at_position (length found) (field_after (head_within n) (type_within n) (list.map (λ f. f.0) found) d)) (λ next. fields_from (head_within n) (type_within n) (found ++ next ∷ []) ds) fs e in
     let f : List ℕ × AvroType = first.0 in
-    let one = field_again n again found d f (at_position_Ok (length found) (field_after (head_within n) (type_within n) found d) f first.1) in
+    let one = field_again n again (list.map (λ f. f.0) found) d f (at_position_Ok (length found) (field_after (head_within n) (type_within n) (list.map (λ f. f.0) found) d) f first.1) in
     let more = fields_again n again (found ++ f ∷ []) ds fs first.2 in
     record {
       new = f ∷ more.new;
       all = more.all ∙ append_assoc found (f ∷ []) more.new;
-      read = bind_to (at_position (length found) (field_after (head_within n) (type_within n) found (field_json f.0 (type_json f.1)))) f (λ next. fields_from (head_within n) (type_within n) (found ++ next ∷ []) (fields_json (fields_of more.new))) (ap (at_position (length found)) one.0) ∙ more.read;
+      read = bind_to (at_position (length found) (field_after (head_within n) (type_within n) (list.map (λ f. f.0) found) (field_json f.0 (type_json f.1)))) f (λ next. fields_from (head_within n) (type_within n) (found ++ next ∷ []) (fields_json (fields_of more.new))) (ap (at_position (length found)) one.0) ∙ more.read;
       deep = omega (arith, one.1.deep, more.deep);
     }
 

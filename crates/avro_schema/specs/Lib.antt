@@ -1,5 +1,6 @@
 pub mod AvroTypes
 pub mod Names
+pub mod NameLists
 pub mod Heads
 pub mod SchemaTexts
 pub mod HeadViews

@@ -51,12 +51,12 @@ kind_of_head (map d) = codes "map"
 kind_of_head (union ds) = codes "union"
 kind_of_head (record_head name ds) = codes "record"
 
--- a field behind those that were found: its name, which none of them has, and the JSON of its type
-unfoldable pub field_head_after : List (List ℕ × AvroType) → Data → Result (List ℕ × Data) SchemaError
-field_head_after found d = do
+-- a field behind those with these names: its name, which none of them has, and the JSON of its type
+unfoldable pub field_head_after : List (List ℕ) → Data → Result (List ℕ × Data) SchemaError
+field_head_after names d = do
   name ← name_in d
   inner ← only_some (get (codes "type") d)
-  only_if (not (is_among (list.map (λ f. f.0) found) name) && has_only (codes "name" ∷ codes "type" ∷ []) d) (name, inner)
+  only_if (not (is_among names name) && has_only (codes "name" ∷ codes "type" ∷ []) d) (name, inner)
 
 -- The schemas inside one. `read_head` reads an inner schema's head, and `grow` what is inside that.
 module _ (read_head : Data → Result Head SchemaError) (grow : Head → Result AvroType SchemaError) where
@@ -78,10 +78,10 @@ module _ (read_head : Data → Result Head SchemaError) (grow : Head → Result 
     type ← at_position (length found) (branch_after found d)
     branches_from (found ++ type ∷ []) ds
 
-  -- a field behind those that were found, with its type
-  unfoldable pub field_after : List (List ℕ × AvroType) → Data → Result (List ℕ × AvroType) SchemaError
-  field_after found d = do
-    head ← field_head_after found d
+  -- a field behind those with these names, with its type
+  unfoldable pub field_after : List (List ℕ) → Data → Result (List ℕ × AvroType) SchemaError
+  field_after names d = do
+    head ← field_head_after names d
     type ← inner_type head.1
     Ok (head.0, type)
 
@@ -89,7 +89,7 @@ module _ (read_head : Data → Result Head SchemaError) (grow : Head → Result 
   unfoldable pub fields_from : List (List ℕ × AvroType) → Items → Result (List (List ℕ × AvroType)) SchemaError
   fields_from found no_items = Ok found
   fields_from found (item d ds) = do
-    next ← at_position (length found) (field_after found d)
+    next ← at_position (length found) (field_after (list.map (λ f. f.0) found) d)
     fields_from (found ++ next ∷ []) ds
 
   -- the type of a head

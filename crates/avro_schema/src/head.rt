@@ -1,12 +1,13 @@
 // What one JSON value says of a schema, before the schemas inside it are read.
-ghost use Rattle.std.specs.Prelude.{◌≡◌, [], ◌∷◌, option_map, codes, IfOk};
+ghost use Rattle.std.specs.Prelude.{◌≡◌, [], ◌∷◌, option_map, map, codes, IfOk};
 ghost use Rattle.serde_json.specs.Data.{array};
 ghost use Rattle.serde_json.specs.View.{view, items_view};
 ghost use Rattle.avro_schema.specs.Heads.{named_head, has_only, name_in, fixed_head, enum_head, array_head, map_head, record_head_of, plain_head, typed_head, head_of, symbol_after, symbols_from};
 ghost use Rattle.avro_schema.specs.HeadViews.{head_view};
 ghost use Rattle.avro_schema.specs.SchemaTexts.{Answers};
 
-use crate::names::{is_among, is_name};
+use crate::name_list::NameList;
+use crate::names::is_name;
 use crate::schema::{Schema, Symbols};
 use crate::schema_error::{Path, SchemaError};
 use hudi_base::Name;
@@ -200,27 +201,38 @@ pub(crate) fn has_field_members(value: &Value) -> bool
 }
 
 // The symbol of an enum, if it is a name that none before it has.
-fn symbol_after<'a>(found: &[Name], value: &'a Value) -> Option<&'a str>
+fn symbol_after<'a>(found: &NameList<'a>, value: &'a Value) -> Option<&'a str>
     ensures { option_map (λ symbol. symbol.now) result ≡ symbol_after found.now (view value.now) }
 {
     match value.as_str() {
-        Some(symbol) if is_name(symbol) && !is_among(found, symbol) => Some(symbol),
+        Some(symbol) if is_name(symbol) && !found.has(symbol) => Some(symbol),
         _ => None,
     }
 }
 
 // The symbols of an enum, if all are names and no two are the same.
-fn symbols_in(alloc: Global, values: &[Value]) -> Result<Option<Symbols>, AllocError>
+fn symbol_names(alloc: Global, values: &[Value]) -> Result<Option<NameList<'_>>, AllocError>
     ensures { IfOk result (λ symbols. symbols ≡ symbols_from [] (items_view values.now)) }
 {
-    let mut found = Symbols::new(alloc);
+    let mut found = NameList::new(alloc);
     for value in values {
-        let Some(symbol) = symbol_after(found.as_slice(), value) else {
+        let Some(symbol) = symbol_after(&found, value) else {
             return Ok(None);
         };
-        found.push(Name::from_text(alloc, symbol)?)?;
+        found.push(symbol)?;
     }
     Ok(Some(found))
+}
+
+// Copies of names.
+fn copies_of(alloc: Global, names: &[&str]) -> Result<Symbols, AllocError>
+    ensures { IfOk result (λ symbols. symbols ≡ map (λ name. name.now) names.now) }
+{
+    let mut symbols = Symbols::new(alloc);
+    for name in names {
+        symbols.push(Name::from_text(alloc, name)?)?;
+    }
+    Ok(symbols)
 }
 
 #[tactic(auto, unfolding(crate::specs::Heads::fixed_head))]
@@ -246,13 +258,14 @@ fn enum_head<'a>(alloc: Global, value: &Value) -> Result<Head<'a>, SchemaError>
     let Some(items) = items_at("symbols", value) else {
         return Err(SchemaError::bad(alloc));
     };
-    let Some(symbols) = symbols_in(alloc, items)? else {
+    let Some(symbols) = symbol_names(alloc, items)? else {
         return Err(SchemaError::bad(alloc));
     };
     if symbols.len() == 0 || !has_enum_members(value) {
         return Err(SchemaError::bad(alloc));
     }
     let name = Name::from_text(alloc, name)?;
+    let symbols = copies_of(alloc, symbols.as_slice())?;
     Ok(Head::Leaf(Schema::Enum(name, symbols)))
 }
 

@@ -7,6 +7,7 @@
 #![tactic(auto)]
 
 mod head;
+mod name_list;
 mod names;
 mod parse;
 mod schema;

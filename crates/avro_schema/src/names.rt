@@ -1,9 +1,7 @@
 // The names of types, symbols and fields.
 ghost use Rattle.std.specs.Prelude.{◌≡◌};
 ghost use Rattle.std.specs.List.{list_all};
-ghost use Rattle.avro_schema.specs.Names.{begins_name, continues_name, is_name, is_among};
-
-use hudi_base::Name;
+ghost use Rattle.avro_schema.specs.Names.{begins_name, continues_name, is_name};
 
 fn begins_name(byte: u8) -> bool
     ensures { result ≡ begins_name byte }
@@ -31,11 +29,4 @@ pub(crate) fn is_name(text: &str) -> bool
         [] => false,
         [first, rest @ ..] => begins_name(*first) && all_continue(rest),
     }
-}
-
-// Whether one of the names is this one.
-pub(crate) fn is_among(names: &[Name], name: &str) -> bool
-    ensures { result ≡ is_among names.now name.now }
-{
-    names.iter().any(|other| other.as_str() == name)
 }

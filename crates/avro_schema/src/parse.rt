@@ -1,5 +1,5 @@
 // Schemas of JSON, read from the root.
-ghost use Rattle.std.specs.Prelude.{◌≡◌, [], ◌∷◌, length, map, not, codes};
+ghost use Rattle.std.specs.Prelude.{◌≡◌, [], ◌∷◌, ◌++◌, length, map, not, codes, OnOk};
 ghost use Rattle.std.specs.List.{list_any};
 ghost use Rattle.std.specs.Str.{bytes_eq};
 ghost use Rattle.serde_json.specs.View.{view, items_view};
@@ -10,12 +10,13 @@ ghost use Rattle.avro_schema.specs.HeadViews.{head_view};
 ghost use Rattle.avro_schema.specs.SchemaTexts.{Answers, at_position, kind_of, kind_of_head, head_within, type_within, inner_type, branch_after, branches_from, field_head_after, field_after, fields_from, type_inside, type_named};
 
 use crate::head::{Head, has_field_members, head_of, name_in};
+use crate::name_list::NameList;
 use crate::schema::{Field, Fields, Schema, Schemas};
 use crate::schema_error::SchemaError;
 use hudi_base::Name;
 use serde_json::Value;
 use sqlite_items::{Boxed, Items};
-use std::alloc::Global;
+use std::alloc::{AllocError, Global};
 use table_forms::parse_json;
 
 /// The greatest number of schemas on the way from the root to one inside it, both counted.
@@ -58,19 +59,6 @@ fn has_kind(branches: &[Schema], kind: &str) -> bool
     ensures { result ≡ list_any (λ branch. bytes_eq (kind_of (type_of branch)) kind.now) branches.now }
 {
     branches.iter().any(|branch| kind_of(branch) == kind)
-}
-
-fn name_of(field: &Field) -> &str
-    ensures { result.now ≡ (field_of field.now).0 }
-{
-    field.name.as_str()
-}
-
-// Whether a field has this name.
-fn has_name(fields: &[Field], name: &str) -> bool
-    ensures { result ≡ list_any (λ field. bytes_eq (field_of field).0 name.now) fields.now }
-{
-    fields.iter().any(|field| name_of(field) == name)
 }
 
 // The head of a schema on a way that may have so many schemas from it on, itself counted.
@@ -156,20 +144,20 @@ fn branches_of(alloc: Global, levels: u32, values: &[Value]) -> Result<Schemas, 
     Ok(found)
 }
 
-// What a field says beside its type: its name, which none of those that were found has, and the JSON of its type.
-#[tactic(auto, using(crate::proofs::Lists::is_among_fields), unfolding(crate::specs::SchemaTexts::field_head_after))]
+// What a field says beside its type: its name, which none of these is, and the JSON of its type.
+#[tactic(auto, unfolding(crate::specs::SchemaTexts::field_head_after))]
 fn field_head_after<'a>(
     alloc: Global,
-    found: &[Field],
+    names: &NameList<'a>,
     value: &'a Value,
 ) -> Result<(&'a str, &'a Value), SchemaError>
-    ensures { Answers (λ x. (x.0.now, view x.1.now)) result (field_head_after (map field_of found.now) (view value.now)) }
+    ensures { Answers (λ x. (x.0.now, view x.1.now)) result (field_head_after names.now (view value.now)) }
 {
     let name = name_in(alloc, value)?;
     let Some(inner) = value.get("type") else {
         return Err(SchemaError::bad(alloc));
     };
-    if has_name(found, name) || !has_field_members(value) {
+    if names.has(name) || !has_field_members(value) {
         return Err(SchemaError::bad(alloc));
     }
     Ok((name, inner))
@@ -177,43 +165,61 @@ fn field_head_after<'a>(
 
 #[cycle(inside)]
 #[tactic(auto, unfolding(crate::specs::SchemaTexts::field_after))]
-fn field_after(
+fn field_after<'a>(
     alloc: Global,
     levels: u32,
-    found: &[Field],
-    value: &Value,
-) -> Result<Field, SchemaError>
-    ensures { Answers field_of result (field_after (head_within levels) (type_within levels) (map field_of found.now) (view value.now)) }
+    names: &NameList<'a>,
+    value: &'a Value,
+) -> Result<(&'a str, Schema), SchemaError>
+    ensures { Answers (λ x. (x.0.now, type_of x.1)) result (field_after (head_within levels) (type_within levels) names.now (view value.now)) }
 {
-    let (name, inner) = field_head_after(alloc, found, value)?;
+    let (name, inner) = field_head_after(alloc, names, value)?;
     let schema = inner_type(alloc, levels, inner)?;
-    let name = Name::from_text(alloc, name)?;
-    Ok(Field { name, schema })
+    Ok((name, schema))
 }
 
+// The field behind those with these names, with its position in a refusal.
 #[cycle(inside)]
-fn placed_field(
+fn placed_field<'a>(
     alloc: Global,
     levels: u32,
-    found: &Fields,
-    value: &Value,
-) -> Result<Field, SchemaError>
-    ensures { Answers field_of result (at_position (length found.now) (field_after (head_within levels) (type_within levels) (map field_of found.now) (view value.now))) }
+    names: &NameList<'a>,
+    value: &'a Value,
+) -> Result<(&'a str, Schema), SchemaError>
+    ensures { Answers (λ x. (x.0.now, type_of x.1)) result (at_position (length names.now) (field_after (head_within levels) (type_within levels) names.now (view value.now))) }
 {
-    match field_after(alloc, levels, found.as_slice(), value) {
+    match field_after(alloc, levels, names, value) {
         Ok(field) => Ok(field),
-        Err(error) => Err(error.inside(found.len())),
+        Err(error) => Err(error.inside(names.len())),
     }
+}
+
+// Adds a field, and its name to the names.
+fn push_field<'a>(
+    alloc: Global,
+    names: &mut NameList<'a>,
+    found: &mut Fields,
+    name: &'a str,
+    schema: Schema,
+) -> Result<(), AllocError>
+    ensures names { OnOk result (names.new ≡ names.old ++ name.now ∷ []) }
+    ensures fields { OnOk result (map field_of found.new ≡ map field_of found.old ++ (name.now, type_of schema) ∷ []) }
+{
+    names.push(name)?;
+    let name = Name::from_text(alloc, name)?;
+    found.push(Field { name, schema })?;
+    Ok(())
 }
 
 #[cycle(inside)]
 fn fields_of(alloc: Global, levels: u32, values: &[Value]) -> Result<Fields, SchemaError>
     ensures { Answers (map field_of) result (fields_from (head_within levels) (type_within levels) [] (items_view values.now)) }
 {
+    let mut names = NameList::new(alloc);
     let mut found = Items::new(alloc);
     for value in values {
-        let field = placed_field(alloc, levels, &found, value)?;
-        found.push(field)?;
+        let (name, schema) = placed_field(alloc, levels, &names, value)?;
+        push_field(alloc, &mut names, &mut found, name, schema)?;
     }
     Ok(found)
 }

@@ -1,6 +1,8 @@
-use Rattle.std.proofs.Common.{arith}
+use Rattle.std.proofs.Common.{ℕ, List, [], ◌∷◌, ◌++◌, map, sym, ap, ◌∙◌, arith}
+use Rattle.std.proofs.lemmas.List.{map_push}
 use Rattle.std.proofs.lemmas.Result.{err_from_is_err_and}
 use Rattle.serde_json.specs.View.{items_view}
+use Rattle.avro_schema.specs.AvroTypes.{AvroType, type_of, field_of}
 use Rattle.avro_schema.specs.Heads.{union, record_head}
 use Rattle.avro_schema.specs.SchemaTexts.{head_within, type_within}
 use Rattle.avro_schema.proofs.Loops.{branches_go_on, branches_fail, branches_done, fields_go_on, fields_fail, fields_done, union_made, union_fails, record_made, record_fails, within_step}
@@ -19,18 +21,21 @@ pub branches_of-returns : goal.branches_of-returns
 branches_of-returns t c =
     branches_done (head_within c.args.levels) (type_within c.args.levels) c.loop-value.found c.args.values.now c.loop-value.value-index _ (omega arith) c.loop-value.invariant
 
-pub fields_of-returns-in_err-field : goal.fields_of-returns-in_err-field
-fields_of-returns-in_err-field t c =
+pub fields_of-returns-in_err-name : goal.fields_of-returns-in_err-name
+fields_of-returns-in_err-name t c =
     let p = err_from_is_err_and c.from_residual.result c.from_residual.ensures.1 in
-    rw (p.1, p.2) (fields_fail (head_within c.args.levels) (type_within c.args.levels) c.loop-value.found c.args.values.now c.loop-value.value-index _ c.value-item.result c.in_err-field.field-0.0 c.loop-value-test.true c.value-item.is c.loop-value.invariant c.in_err-field.ensures)
+    rw (p.1, p.2) (fields_fail (head_within c.args.levels) (type_within c.args.levels) c.loop-value.found c.args.values.now c.loop-value.value-index _ c.loop-value.names c.value-item.result c.in_err-name.field-0.0 c.loop-value.invariant.names c.loop-value-test.true c.value-item.is c.loop-value.invariant.read c.in_err-name.ensures)
 
 pub fields_of-loop-value-preserved : goal.fields_of-loop-value-preserved
 fields_of-loop-value-preserved t c =
-    rw c.in_ok-push.ensures.ok (fields_go_on (head_within c.args.levels) (type_within c.args.levels) c.loop-value.found c.args.values.now c.loop-value.value-index _ c.value-item.result c.in_ok-field.field c.loop-value-test.true c.value-item.is c.loop-value.invariant c.in_ok-field.ensures)
+    let next : List ℕ × AvroType = (c.in_ok-name.name.now, type_of c.in_ok-name.schema) in record {
+      read = rw c.in_ok-push_field.ensures.fields (fields_go_on (head_within c.args.levels) (type_within c.args.levels) c.loop-value.found c.args.values.now c.loop-value.value-index _ c.loop-value.names c.value-item.result next c.loop-value.invariant.names c.loop-value-test.true c.value-item.is c.loop-value.invariant.read c.in_ok-name.ensures);
+      names = c.in_ok-push_field.ensures.names ∙ ap (λ (ns : List (List ℕ)). ns ++ next.0 ∷ []) c.loop-value.invariant.names ∙ sym (map_push (λ (f : List ℕ × AvroType). f.0) (map field_of c.loop-value.found) next) ∙ ap (map (λ (f : List ℕ × AvroType). f.0)) (sym c.in_ok-push_field.ensures.fields);
+    }
 
 pub fields_of-returns : goal.fields_of-returns
 fields_of-returns t c =
-    fields_done (head_within c.args.levels) (type_within c.args.levels) c.loop-value.found c.args.values.now c.loop-value.value-index _ (omega arith) c.loop-value.invariant
+    fields_done (head_within c.args.levels) (type_within c.args.levels) c.loop-value.found c.args.values.now c.loop-value.value-index _ (omega arith) c.loop-value.invariant.read
 
 pub union_inside-returns-in_err-branches_of : goal.union_inside-returns-in_err-branches_of
 union_inside-returns-in_err-branches_of t c =

@@ -10,11 +10,13 @@ invariant-branches_of-loop-value l =
     branches_from (head_within l.levels) (type_within l.levels) (map type_of l.found) (items_view (drop l.value-index l.values))
     ≡ branches_from (head_within l.levels) (type_within l.levels) [] (items_view l.values)
 
--- the fields so far and those that follow
+-- the fields so far and those that follow, and the names of those so far
 abbrev pub invariant-fields_of-loop-value : goal.invariant-fields_of-loop-value
-invariant-fields_of-loop-value l =
-    fields_from (head_within l.levels) (type_within l.levels) (map field_of l.found) (items_view (drop l.value-index l.values))
-    ≡ fields_from (head_within l.levels) (type_within l.levels) [] (items_view l.values)
+invariant-fields_of-loop-value l = record {
+  read : fields_from (head_within l.levels) (type_within l.levels) (map field_of l.found) (items_view (drop l.value-index l.values))
+      ≡ fields_from (head_within l.levels) (type_within l.levels) [] (items_view l.values);
+  names : l.names ≡ map (λ f. f.0) (map field_of l.found);
+}
 
 abbrev pub decreases-type_within : goal.decreases-type_within
 decreases-type_within l = 8 * l.levels + 0
