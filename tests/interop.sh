@@ -1,27 +1,35 @@
 #!/bin/sh
-# Tries the codecs beside programs of others: today Avro's values beside Debian's python3-avro, in both directions.
+# Tries the codecs beside programs of others: Avro's values beside Debian's python3-avro, in both directions, and Parquet's
+# footers and page headers beside its python3-thrift, which reads what is written.
 #
 # Run: tests/interop.sh
-# It installs the package where apt-get can, and fails where it isn't there: a codec that was not tried has not passed.
+# It installs the packages where apt-get can, and fails where they aren't there: a codec that was not tried has not passed.
 set -eu
 top=$(cd "$(dirname "$0")/.." && pwd)
-tool=$top/crates/codec_tool
 python=/usr/bin/python3
 
-if ! $python -c 'import avro.io' 2>/dev/null; then
-    apt-get update >/dev/null && apt-get install -y python3-avro >/dev/null || true
+if ! $python -c 'import avro.io, thrift.Thrift' 2>/dev/null; then
+    apt-get update >/dev/null && apt-get install -y python3-avro python3-thrift >/dev/null || true
 fi
-if ! $python -c 'import avro.io'; then
-    echo "failed: no python3-avro"
+if ! $python -c 'import avro.io, thrift.Thrift'; then
+    echo "failed: python3-avro or python3-thrift isn't there"
     exit 1
 fi
 
-# Proves and builds the program, and fails where that fails.
 built=$(mktemp)
 trap 'rm -f "$built"' EXIT
-if ! (cd "$tool" && rt run -- avro decode <stdin) >"$built" 2>&1; then
-    cat "$built"
-    exit 1
-fi
 
-$python "$top/tests/interop.py" "$tool/out/codec_tool"
+# Proves and builds a program on its own input, and fails where that fails.
+build() {
+    crate=$top/crates/$1
+    shift
+    if ! (cd "$crate" && rt run -- "$@" <stdin) >"$built" 2>&1; then
+        cat "$built"
+        exit 1
+    fi
+}
+
+build codec_tool avro decode
+build thrift_cases
+$python "$top/tests/interop_avro.py" "$top/crates/codec_tool/out/codec_tool"
+$python "$top/tests/interop_thrift.py" "$top/crates/thrift_cases/out/thrift_cases"

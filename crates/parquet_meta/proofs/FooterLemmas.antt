@@ -1,21 +1,20 @@
 -- A written footer is read back.
-use Rattle.std.proofs.Common.{◌≡◌, ℕ, Bool, true, false, List, [], ◌∷◌, ◌++◌, map, Option, Some, None, Ok, ℤ, pos, refl, sym, ap, ◌∙◌, lit<, arith}
+use Rattle.std.proofs.Common.{◌≡◌, ℕ, Bool, true, false, List, [], ◌∷◌, ◌++◌, map, Option, Some, None, Ok, ℤ, pos, refl, sym, ap, ◌∙◌, lit<}
 use Rattle.std.specs.Prelude.{codes}
 use Rattle.std.proofs.lemmas.List.{append-nil}
 use Rattle.byte_fields.specs.Reading.{Reading, ◌>>=◌}
 use Rattle.byte_fields.specs.Varints.{zigzag_at}
-use Rattle.thrift_compact.specs.Types.{is_type}
 use Rattle.parquet_meta.specs.declared.element.Element.{Element}
 use Rattle.parquet_meta.specs.declared.chunk.Chunk.{Chunk}
-use Rattle.parquet_meta.specs.declared.chunk.ColumnMeta.{ColumnMeta}
 use Rattle.parquet_meta.specs.declared.row_group.RowGroup.{RowGroup}
 use Rattle.parquet_meta.specs.declared.file_meta.FileMeta.{FileMeta}
-use Rattle.parquet_meta.specs.Reading.{with_value, binary_at, other_field_at}
+use Rattle.parquet_meta.specs.Reading.{with_value, binary_at}
 use Rattle.parquet_meta.specs.Footers.{no_element_fields, element_field_at, element_of, element_at, no_column_meta_fields, column_meta_field_at, column_meta_of, column_meta_at, no_chunk_fields, chunk_field_at, chunk_of, chunk_at, no_row_group_fields, row_group_field_at, row_group_of, row_group_at, no_file_meta_fields, file_meta_field_at, file_meta_of, file_meta_at, with_nothing_left, footer_of}
 use Rattle.parquet_meta.specs.StaysLaws.{element_field_stays, column_meta_field_stays, chunk_field_stays, row_group_field_stays, file_meta_field_stays}
-use Rattle.parquet_meta.specs.Written.{Field, i32_field, i64_field, optional_field, number_bytes, binary_bytes, list_bytes, element_bytes, column_meta_bytes, chunk_bytes, row_group_bytes, file_meta_bytes, converted_type, IsShort}
-use Rattle.parquet_meta.specs.ReadBack.{Is32, IsElement, IsChunk, IsRowGroup, IsFileMeta, element_read, meta_read}
-use Rattle.parquet_meta.proofs.ReadBackLemmas.{IsNext, AreNext, TakeBack, number32_again, number64_again, binary_again, whole_again, list_again, same_list_again, passed_binary_again, passed_number_again, zero_fits}
+use Rattle.parquet_meta.specs.Written.{i32_field, i64_field, number_bytes, binary_bytes, list_bytes, element_bytes, column_meta_bytes, chunk_bytes, row_group_bytes, file_meta_bytes, IsShort}
+use Rattle.parquet_meta.specs.ReadBack.{Is32, element_read, meta_read}
+use Rattle.parquet_meta.proofs.FitLemmas.{IsElement, IsChunk, IsRowGroup, IsFileMeta}
+use Rattle.parquet_meta.proofs.ReadBackLemmas.{number32_again, number64_again, binary_again, whole_again, list_again, same_list_again, passed_binary_again, passed_number_again, zero_fits}
 
 column_meta_again : (c : Chunk) (rest : List ℕ) → IsChunk c → column_meta_at (column_meta_bytes c ++ rest) ≡ Ok ((record { physical = c.physical; encodings = c.encodings; path = c.path; codec = c.codec; num_values = c.num_values; uncompressed = c.uncompressed; compressed = c.compressed; data_offset = c.data_offset }), rest)
 unfolding column_meta_field_at

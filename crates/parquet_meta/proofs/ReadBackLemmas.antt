@@ -1,17 +1,15 @@
 -- Written structs and lists are read back.
-use Rattle.std.proofs.Common.{◌≡◌, ℕ, zero, suc, ◌+◌, ◌-◌, ◌*◌, ◌/◌, ◌%◌, ◌^◌, ◌<◌, ◌≤◌, Bool, true, false, List, [], ◌∷◌, ◌++◌, length, map, Option, Some, None, Ok, Err, ℤ, pos, ◌+ℤ◌, ◌-ℤ◌, refl, sym, ap, ◌∙◌, append_assoc, arith, inl, inr}
-use Rattle.std.specs.Prelude.{nat_abs, int_le, ◌==◌, nat_lt, FitsSigned}
-use Rattle.std.specs.Int.{w32, w64}
+use Rattle.std.proofs.Common.{◌≡◌, ℕ, suc, ◌+◌, ◌*◌, ◌/◌, ◌%◌, ◌^◌, ◌<◌, Bool, true, false, List, [], ◌∷◌, ◌++◌, length, map, Option, Some, Ok, ℤ, pos, ◌+ℤ◌, ◌-ℤ◌, refl, ap, ◌∙◌, append_assoc, arith, inl, inr}
+use Rattle.std.specs.Prelude.{nat_abs, int_le, ◌==◌}
 use Rattle.std.specs.List.{flat_map, AllByRecursion}
 use Rattle.std.proofs.lemmas.Int.{ints}
 use Rattle.std.proofs.lemmas.Bool.{eq-eqb, ne_eqb, lt-ltb, le-ltb, cases_lt}
-use Rattle.byte_fields.specs.Reading.{Reading, ◌>>=◌, as_item, only_if, only_some}
+use Rattle.byte_fields.specs.Reading.{Reading, ◌>>=◌, only_if, only_some}
 use Rattle.byte_fields.specs.Varints.{varint, zigzag, varint_at, zigzag_at}
-use Rattle.byte_fields.specs.Prefixed.{with_length, prefixed_at}
 use Rattle.byte_fields.proofs.VarintLemmas.{zigzag_again, zigzag_fits-32, zigzag_fits-64, varint_again}
 use Rattle.byte_fields.proofs.PrefixedLemmas.{prefixed_at_again, varint_length}
 use Rattle.thrift_compact.specs.Types.{is_type, shape_of}
-use Rattle.thrift_compact.specs.Heads.{high_half, low_half, id_at, field_at, size_at, list_at, field_head, list_head}
+use Rattle.thrift_compact.specs.Heads.{id_at, field_at, size_at, list_at, field_head, list_head}
 use Rattle.thrift_compact.specs.Values.{fields_at, struct_at, passed, scalar_at, value_at}
 use Rattle.thrift_compact.specs.Within.{TakeStays}
 use Rattle.thrift_compact.proofs.FieldsLemmas.{fields_at-stop, fields_at-next}

@@ -27,12 +27,20 @@ unfoldable pub element_field_at : ElementFields → ℤ → ℕ → ℕ → List
 element_field_at so_far id kind left bytes =
     if is_number 1 id then with_value (λ n. record so_far { physical = Some n }) (i32_field_at kind left bytes) else
     if is_number 3 id then with_value (λ n. record so_far { repetition = Some n }) (i32_field_at kind left bytes) else
-    if is_number 4 id then with_value (λ name. record so_far { name = Some name }) (binary_field_at kind left bytes) else
+    if is_number 4 id then with_value (λ name. record so_far { name = Some name })
+    (binary_field_at kind left bytes) else
     if is_number 5 id then with_value (λ n. record so_far { children = Some n }) (i32_field_at kind left bytes) else
     other_field_at so_far kind bytes
 
 abbrev pub element_of : ElementFields → Option Element
-element_of fields = option_and_then (λ name. Some (record { physical = fields.physical; repetition = fields.repetition; name = name; children = fields.children; utf8 = false })) fields.name
+element_of fields = option_and_then
+    (λ name. Some (record {
+      physical = fields.physical;
+      repetition = fields.repetition;
+      name = name;
+      children = fields.children;
+      utf8 = false;
+    })) fields.name
 
 abbrev pub element_at : List ℕ → Reading Element
 element_at = whole_at element_field_at no_element_fields element_of
@@ -41,13 +49,24 @@ element_at = whole_at element_field_at no_element_fields element_of
 -- total_compressed_size, data_page_offset, all required
 
 abbrev pub no_column_meta_fields : ColumnMetaFields
-no_column_meta_fields = record { physical = None; encodings = None; path = None; codec = None; num_values = None; uncompressed = None; compressed = None; data_offset = None }
+no_column_meta_fields = record {
+  physical = None;
+  encodings = None;
+  path = None;
+  codec = None;
+  num_values = None;
+  uncompressed = None;
+  compressed = None;
+  data_offset = None;
+}
 
 unfoldable pub column_meta_field_at : ColumnMetaFields → ℤ → ℕ → ℕ → List ℕ → Reading ColumnMetaFields
 column_meta_field_at so_far id kind left bytes =
     if is_number 1 id then with_value (λ n. record so_far { physical = Some n }) (i32_field_at kind left bytes) else
-    if is_number 2 id then with_value (λ ns. record so_far { encodings = Some ns }) (list_field_at 5 (zigzag_at 32) kind left bytes) else
-    if is_number 3 id then with_value (λ names. record so_far { path = Some names }) (list_field_at 8 binary_at kind left bytes) else
+    if is_number 2 id then with_value (λ ns. record so_far { encodings = Some ns })
+    (list_field_at 5 (zigzag_at 32) kind left bytes) else
+    if is_number 3 id then with_value (λ names. record so_far { path = Some names })
+    (list_field_at 8 binary_at kind left bytes) else
     if is_number 4 id then with_value (λ n. record so_far { codec = Some n }) (i32_field_at kind left bytes) else
     if is_number 5 id then with_value (λ n. record so_far { num_values = Some n }) (i64_field_at kind left bytes) else
     if is_number 6 id then with_value (λ n. record so_far { uncompressed = Some n }) (i64_field_at kind left bytes) else
@@ -65,7 +84,16 @@ column_meta_of fields =
     option_and_then (λ uncompressed.
     option_and_then (λ compressed.
     option_and_then (λ data_offset.
-    Some (record { physical = physical; encodings = encodings; path = path; codec = codec; num_values = num_values; uncompressed = uncompressed; compressed = compressed; data_offset = data_offset }))
+    Some (record {
+      physical = physical;
+      encodings = encodings;
+      path = path;
+      codec = codec;
+      num_values = num_values;
+      uncompressed = uncompressed;
+      compressed = compressed;
+      data_offset = data_offset;
+    }))
     fields.data_offset) fields.compressed) fields.uncompressed) fields.num_values) fields.codec) fields.path) fields.encodings) fields.physical
 
 abbrev pub column_meta_at : List ℕ → Reading ColumnMeta
@@ -79,14 +107,25 @@ no_chunk_fields = record { file_offset = None; meta = None }
 unfoldable pub chunk_field_at : ChunkFields → ℤ → ℕ → ℕ → List ℕ → Reading ChunkFields
 chunk_field_at so_far id kind left bytes =
     if is_number 2 id then with_value (λ n. record so_far { file_offset = Some n }) (i64_field_at kind left bytes) else
-    if is_number 3 id then with_value (λ m. record so_far { meta = Some m }) (typed_at 12 column_meta_at kind left bytes) else
+    if is_number 3 id then with_value (λ m. record so_far { meta = Some m })
+    (typed_at 12 column_meta_at kind left bytes) else
     other_field_at so_far kind bytes
 
 abbrev pub chunk_of : ChunkFields → Option Chunk
 chunk_of fields =
     option_and_then (λ file_offset.
     option_and_then (λ m.
-    Some (record { file_offset = file_offset; physical = m.physical; encodings = m.encodings; path = m.path; codec = m.codec; num_values = m.num_values; uncompressed = m.uncompressed; compressed = m.compressed; data_offset = m.data_offset }))
+    Some (record {
+      file_offset = file_offset;
+      physical = m.physical;
+      encodings = m.encodings;
+      path = m.path;
+      codec = m.codec;
+      num_values = m.num_values;
+      uncompressed = m.uncompressed;
+      compressed = m.compressed;
+      data_offset = m.data_offset;
+    }))
     fields.meta) fields.file_offset
 
 abbrev pub chunk_at : List ℕ → Reading Chunk
@@ -99,7 +138,8 @@ no_row_group_fields = record { columns = None; total_size = None; num_rows = Non
 
 unfoldable pub row_group_field_at : RowGroupFields → ℤ → ℕ → ℕ → List ℕ → Reading RowGroupFields
 row_group_field_at so_far id kind left bytes =
-    if is_number 1 id then with_value (λ chunks. record so_far { columns = Some chunks }) (list_field_at 12 chunk_at kind left bytes) else
+    if is_number 1 id then with_value (λ chunks. record so_far { columns = Some chunks })
+    (list_field_at 12 chunk_at kind left bytes) else
     if is_number 2 id then with_value (λ n. record so_far { total_size = Some n }) (i64_field_at kind left bytes) else
     if is_number 3 id then with_value (λ n. record so_far { num_rows = Some n }) (i64_field_at kind left bytes) else
     other_field_at so_far kind bytes
@@ -123,9 +163,11 @@ no_file_meta_fields = record { version = None; schema = None; num_rows = None; g
 unfoldable pub file_meta_field_at : FileMetaFields → ℤ → ℕ → ℕ → List ℕ → Reading FileMetaFields
 file_meta_field_at so_far id kind left bytes =
     if is_number 1 id then with_value (λ n. record so_far { version = Some n }) (i32_field_at kind left bytes) else
-    if is_number 2 id then with_value (λ elements. record so_far { schema = Some elements }) (list_field_at 12 element_at kind left bytes) else
+    if is_number 2 id then with_value (λ elements. record so_far { schema = Some elements })
+    (list_field_at 12 element_at kind left bytes) else
     if is_number 3 id then with_value (λ n. record so_far { num_rows = Some n }) (i64_field_at kind left bytes) else
-    if is_number 4 id then with_value (λ groups. record so_far { groups = Some groups }) (list_field_at 12 row_group_at kind left bytes) else
+    if is_number 4 id then with_value (λ groups. record so_far { groups = Some groups })
+    (list_field_at 12 row_group_at kind left bytes) else
     other_field_at so_far kind bytes
 
 abbrev pub file_meta_of : FileMetaFields → Option FileMeta

@@ -1,5 +1,6 @@
 pub mod Answers
 pub mod Footers
+pub mod Structs
 pub mod PageHeaders
 pub mod Reading
 pub mod Results

@@ -43,7 +43,8 @@ page_header_field_at so_far id kind left bytes =
     if is_number 1 id then with_value (λ n. record so_far { kind = Some n }) (i32_field_at kind left bytes) else
     if is_number 2 id then with_value (λ n. record so_far { uncompressed = Some n }) (i32_field_at kind left bytes) else
     if is_number 3 id then with_value (λ n. record so_far { compressed = Some n }) (i32_field_at kind left bytes) else
-    if is_number 5 id then with_value (λ p. record so_far { page = Some p }) (typed_at 12 data_page_at kind left bytes) else
+    if is_number 5 id then with_value (λ p. record so_far { page = Some p })
+    (typed_at 12 data_page_at kind left bytes) else
     other_field_at so_far kind bytes
 
 abbrev pub page_header_of : PageHeaderFields → Option PageHeader
@@ -52,7 +53,15 @@ page_header_of fields =
     option_and_then (λ uncompressed.
     option_and_then (λ compressed.
     option_and_then (λ page.
-    Some (record { kind = kind; uncompressed = uncompressed; compressed = compressed; values = page.values; encoding = page.encoding; def_encoding = page.def_encoding; rep_encoding = page.rep_encoding }))
+    Some (record {
+      kind = kind;
+      uncompressed = uncompressed;
+      compressed = compressed;
+      values = page.values;
+      encoding = page.encoding;
+      def_encoding = page.def_encoding;
+      rep_encoding = page.rep_encoding;
+    }))
     fields.page) fields.compressed) fields.uncompressed) fields.kind
 
 -- a page's header at the beginning of the bytes

@@ -1,6 +1,6 @@
--- What is read of a written form: the same, but that an element doesn't keep whether it is a text. All the numbers have
--- 32 or 64 bits, as their types say.
-use Rattle.std.specs.Prelude.{◌≡◌, ℤ, FitsSigned, false, List, map, Option, Some, None}
+-- What is read of a written form: the same, but that an element doesn't keep whether it is a text. In a law the numbers have
+-- to be said to have 32 or 64 bits, which the types of the code say.
+use Rattle.std.specs.Prelude.{ℤ, FitsSigned, false, map, Option, Some, None}
 use Rattle.std.specs.Int.{w32, w64}
 use Rattle.std.specs.List.{AllByRecursion}
 use Rattle.parquet_meta.specs.declared.element.Element.{Element}
@@ -8,7 +8,6 @@ use Rattle.parquet_meta.specs.declared.chunk.Chunk.{Chunk}
 use Rattle.parquet_meta.specs.declared.row_group.RowGroup.{RowGroup}
 use Rattle.parquet_meta.specs.declared.file_meta.FileMeta.{FileMeta}
 use Rattle.parquet_meta.specs.declared.page_header.PageHeader.{PageHeader}
-use Rattle.parquet_meta.specs.Written.{IsShort}
 
 -- ---- numbers within their types
 
@@ -22,7 +21,7 @@ abbrev pub IsOptional32 : Option ℤ → Type 0
 IsOptional32 (Some n) = Is32 n
 IsOptional32 None = Unit {0}
 
-pub record IsPageHeader (h : PageHeader) : Type 0 where
+pub record IsTypedHeader (h : PageHeader) : Type 0 where
   pub kind : Is32 h.kind
   pub uncompressed : Is32 h.uncompressed
   pub compressed : Is32 h.compressed
@@ -31,38 +30,31 @@ pub record IsPageHeader (h : PageHeader) : Type 0 where
   pub def_encoding : Is32 h.def_encoding
   pub rep_encoding : Is32 h.rep_encoding
 
-pub record IsElement (e : Element) : Type 0 where
+pub record IsTypedElement (e : Element) : Type 0 where
   pub physical : IsOptional32 e.physical
   pub repetition : IsOptional32 e.repetition
-  pub name : IsShort e.name
   pub children : IsOptional32 e.children
 
-pub record IsChunk (c : Chunk) : Type 0 where
+pub record IsTypedChunk (c : Chunk) : Type 0 where
   pub file_offset : Is64 c.file_offset
   pub physical : Is32 c.physical
-  pub encodings : IsShort c.encodings
-  pub each_encoding : AllByRecursion Is32 c.encodings
-  pub path : IsShort c.path
-  pub each_name : AllByRecursion IsShort c.path
+  pub encodings : AllByRecursion Is32 c.encodings
   pub codec : Is32 c.codec
   pub num_values : Is64 c.num_values
   pub uncompressed : Is64 c.uncompressed
   pub compressed : Is64 c.compressed
   pub data_offset : Is64 c.data_offset
 
-pub record IsRowGroup (g : RowGroup) : Type 0 where
-  pub columns : IsShort g.columns
-  pub each : AllByRecursion IsChunk g.columns
+pub record IsTypedRowGroup (g : RowGroup) : Type 0 where
+  pub columns : AllByRecursion IsTypedChunk g.columns
   pub total_size : Is64 g.total_size
   pub num_rows : Is64 g.num_rows
 
-pub record IsFileMeta (m : FileMeta) : Type 0 where
+pub record IsTypedFileMeta (m : FileMeta) : Type 0 where
   pub version : Is32 m.version
-  pub schema : IsShort m.schema
-  pub each_element : AllByRecursion IsElement m.schema
+  pub schema : AllByRecursion IsTypedElement m.schema
   pub num_rows : Is64 m.num_rows
-  pub groups : IsShort m.groups
-  pub each_group : AllByRecursion IsRowGroup m.groups
+  pub groups : AllByRecursion IsTypedRowGroup m.groups
 
 -- ---- what isn't read
 

@@ -46,11 +46,13 @@ whole_at take nothing whole bytes =
 -- so many items
 unfoldable pub items_at : {A : Type 0} → (List ℕ → Reading A) → ℕ → List ℕ → Reading (List A)
 items_at read zero bytes = Ok ([], bytes)
-items_at read (suc count) bytes = read bytes >>= λ first. items_at read count first.1 >>= λ more. Ok (first.0 ∷ more.0, more.1)
+items_at read (suc count) bytes = read bytes >>= λ first. items_at read count first.1 >>= λ more.
+    Ok (first.0 ∷ more.0, more.1)
 
 -- a list whose items have the wanted type; else its head is bad
 unfoldable pub list_of_at : {A : Type 0} → ℕ → (List ℕ → Reading A) → List ℕ → Reading (List A)
-list_of_at wanted read bytes = list_at bytes >>= λ head. only_if (head.0.0 == wanted) bytes head >>= λ head. items_at read head.0.1 head.1
+list_of_at wanted read bytes = list_at bytes >>= λ head. only_if (head.0.0 == wanted) bytes head >>= λ head.
+    items_at read head.0.1 head.1
 
 -- a field that is such a list
 abbrev pub list_field_at : {A : Type 0} → ℕ → (List ℕ → Reading A) → ℕ → ℕ → List ℕ → Reading (List A)

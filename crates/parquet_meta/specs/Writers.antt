@@ -6,7 +6,10 @@ use Rattle.parquet_meta.specs.Written.{Field}
 
 -- with a field of the innermost struct
 abbrev pub with_field : Field → Written → Written
-with_field field w = record { bytes = w.bytes ++ field_head (difference_of field.id w.levels) field.kind ++ field.value; levels = after_field field.id w.levels }
+with_field field w = record {
+  bytes = w.bytes ++ field_head (difference_of field.id w.levels) field.kind ++ field.value;
+  levels = after_field field.id w.levels;
+}
 
 abbrev pub with_fields : List Field → Written → Written
 with_fields [] w = w

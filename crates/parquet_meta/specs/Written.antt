@@ -22,7 +22,8 @@ pub record Field : Type 0 where
 -- fields in the order of their ids, behind one of the id `last`
 abbrev pub fields_bytes : ℤ → List Field → List ℕ
 fields_bytes last [] = []
-fields_bytes last (field ∷ fields) = field_head (nat_abs (field.id -ℤ last)) field.kind ++ field.value ++ fields_bytes field.id fields
+fields_bytes last (field ∷ fields) = field_head (nat_abs (field.id -ℤ last)) field.kind ++ field.value
+    ++ fields_bytes field.id fields
 
 -- a struct of these fields, with its stop byte
 abbrev pub struct_bytes : List Field → List ℕ
@@ -53,7 +54,9 @@ optional_field id (Some n) = i32_field id n ∷ []
 
 -- the DataPageHeader of a header
 abbrev pub data_page_bytes : PageHeader → List ℕ
-data_page_bytes h = struct_bytes (i32_field (pos 1) h.values ∷ i32_field (pos 2) h.encoding ∷ i32_field (pos 3) h.def_encoding ∷ i32_field (pos 4) h.rep_encoding ∷ [])
+data_page_bytes h = struct_bytes
+    (i32_field (pos 1) h.values ∷ i32_field (pos 2) h.encoding ∷ i32_field (pos 3) h.def_encoding
+    ∷ i32_field (pos 4) h.rep_encoding ∷ [])
 
 -- PageHeader, with its DataPageHeader as field 5
 abbrev pub page_header_bytes : PageHeader → List ℕ
@@ -69,7 +72,10 @@ converted_type utf8 = if utf8 then Some (pos 0) else None
 
 -- SchemaElement
 abbrev pub element_bytes : Element → List ℕ
-element_bytes e = struct_bytes (optional_field (pos 1) e.physical ++ optional_field (pos 3) e.repetition ++ (record { id = pos 4; kind = 8; value = binary_bytes e.name }) ∷ [] ++ optional_field (pos 5) e.children ++ optional_field (pos 6) (converted_type e.utf8))
+element_bytes e = struct_bytes
+    (optional_field (pos 1) e.physical ++ optional_field (pos 3) e.repetition
+    ++ (record { id = pos 4; kind = 8; value = binary_bytes e.name }) ∷ [] ++ optional_field (pos 5) e.children
+    ++ optional_field (pos 6) (converted_type e.utf8))
 
 -- the ColumnMetaData of a chunk
 abbrev pub column_meta_bytes : Chunk → List ℕ
@@ -77,14 +83,18 @@ column_meta_bytes c = struct_bytes (
     i32_field (pos 1) c.physical ∷
     (record { id = pos 2; kind = 9; value = list_bytes 5 number_bytes c.encodings }) ∷
     (record { id = pos 3; kind = 9; value = list_bytes 8 binary_bytes c.path }) ∷
-    i32_field (pos 4) c.codec ∷ i64_field (pos 5) c.num_values ∷ i64_field (pos 6) c.uncompressed ∷ i64_field (pos 7) c.compressed ∷ i64_field (pos 9) c.data_offset ∷ [])
+    i32_field (pos 4) c.codec ∷ i64_field (pos 5) c.num_values ∷ i64_field (pos 6) c.uncompressed
+    ∷ i64_field (pos 7) c.compressed ∷ i64_field (pos 9) c.data_offset ∷ [])
 
 -- ColumnChunk, with its ColumnMetaData as field 3
 abbrev pub chunk_bytes : Chunk → List ℕ
-chunk_bytes c = struct_bytes (i64_field (pos 2) c.file_offset ∷ (record { id = pos 3; kind = 12; value = column_meta_bytes c }) ∷ [])
+chunk_bytes c = struct_bytes
+    (i64_field (pos 2) c.file_offset ∷ (record { id = pos 3; kind = 12; value = column_meta_bytes c }) ∷ [])
 
 abbrev pub row_group_bytes : RowGroup → List ℕ
-row_group_bytes g = struct_bytes ((record { id = pos 1; kind = 9; value = list_bytes 12 chunk_bytes g.columns }) ∷ i64_field (pos 2) g.total_size ∷ i64_field (pos 3) g.num_rows ∷ [])
+row_group_bytes g = struct_bytes
+    ((record { id = pos 1; kind = 9; value = list_bytes 12 chunk_bytes g.columns }) ∷ i64_field (pos 2) g.total_size
+    ∷ i64_field (pos 3) g.num_rows ∷ [])
 
 -- FileMetaData, with `created_by`
 abbrev pub file_meta_bytes : FileMeta → List ℕ

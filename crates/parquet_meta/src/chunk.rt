@@ -255,7 +255,8 @@ impl Item for Chunk {
 fn put_column_meta(writer: &mut TWriter, chunk: &Chunk) -> Result<(), AllocError>
     requires field { TakesField (pos 3) writer.old.levels }
     requires fits { FitsChunk chunk.now }
-    ensures { OnOk result (writer.new ≡ with_field (record { id = pos 3; kind = 12; value = column_meta_bytes chunk.now }) writer.old) }
+    ensures { OnOk result
+        (writer.new ≡ with_field (record { id = pos 3; kind = 12; value = column_meta_bytes chunk.now }) writer.old) }
 {
     writer.field_struct(META_DATA)?;
     writer.field_i32(TYPE, chunk.physical)?;

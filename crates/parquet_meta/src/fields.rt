@@ -39,7 +39,8 @@ pub(crate) trait Fields: Sized + Drop {
         reader: &mut TReader<'_>,
     ) -> Result<Self, ReadError>
         requires { offset ≤ reader.old.total }
-        ensures { ReadsHere (λ x. x) reader.old reader.new result (take self id kind (reader.old.total - offset) reader.old.rest) };
+        ensures { ReadsHere (λ x. x) reader.old reader.new result
+            (take self id kind (reader.old.total - offset) reader.old.rest) };
 
     /// The struct, or None where a required field isn't there.
     fn into_whole(self) -> Option<Self::Whole>
@@ -89,7 +90,8 @@ fn bad_at(offset: usize) -> ReadError
 /// A field that is a number of 32 bits.
 pub(crate) fn i32_field(kind: u8, offset: usize, reader: &mut TReader<'_>) -> Result<i32, ReadError>
     requires { offset ≤ reader.old.total }
-    ensures { ReadsHere (λ x. x) reader.old reader.new result (i32_field_at kind (reader.old.total - offset) reader.old.rest) }
+    ensures { ReadsHere (λ x. x) reader.old reader.new result
+        (i32_field_at kind (reader.old.total - offset) reader.old.rest) }
 {
     if kind != I32 {
         return Err(bad_at(offset));
@@ -100,7 +102,8 @@ pub(crate) fn i32_field(kind: u8, offset: usize, reader: &mut TReader<'_>) -> Re
 /// A field that is a number of 64 bits.
 pub(crate) fn i64_field(kind: u8, offset: usize, reader: &mut TReader<'_>) -> Result<i64, ReadError>
     requires { offset ≤ reader.old.total }
-    ensures { ReadsHere (λ x. x) reader.old reader.new result (i64_field_at kind (reader.old.total - offset) reader.old.rest) }
+    ensures { ReadsHere (λ x. x) reader.old reader.new result
+        (i64_field_at kind (reader.old.total - offset) reader.old.rest) }
 {
     if kind != I64 {
         return Err(bad_at(offset));
@@ -116,7 +119,8 @@ pub(crate) fn binary_field(
     reader: &mut TReader<'_>,
 ) -> Result<Bytes, ReadError>
     requires { offset ≤ reader.old.total }
-    ensures { ReadsHere (λ x. x) reader.old reader.new result (binary_field_at kind (reader.old.total - offset) reader.old.rest) }
+    ensures { ReadsHere (λ x. x) reader.old reader.new result
+        (binary_field_at kind (reader.old.total - offset) reader.old.rest) }
 {
     if kind != BINARY {
         return Err(bad_at(offset));
@@ -133,7 +137,8 @@ pub(crate) fn struct_field<F: Fields>(
     reader: &mut TReader<'_>,
 ) -> Result<F::Whole, ReadError>
     requires { offset ≤ reader.old.total }
-    ensures { ReadsHere (λ x. x) reader.old reader.new result (typed_at 12 (whole_at F.take F.nothing F.whole) kind (reader.old.total - offset) reader.old.rest) }
+    ensures { ReadsHere (λ x. x) reader.old reader.new result
+        (typed_at 12 (whole_at F.take F.nothing F.whole) kind (reader.old.total - offset) reader.old.rest) }
 {
     if kind != STRUCT {
         return Err(bad_at(offset));
@@ -175,7 +180,8 @@ fn push_item<T: Item>(
     items: &mut Sequence<T>,
     reader: &mut TReader<'_>,
 ) -> Result<(), ReadError>
-    ensures { ReadsHere (λ x. items.new) reader.old reader.new result (with_value (λ x. items.old ++ x ∷ []) (T.item_at reader.old.rest)) }
+    ensures { ReadsHere (λ x. items.new) reader.old reader.new result
+        (with_value (λ x. items.old ++ x ∷ []) (T.item_at reader.old.rest)) }
 {
     let item = T::read(alloc, reader)?;
     items.push(item)?;
@@ -217,7 +223,8 @@ pub(crate) fn list_field<T: Item>(
     reader: &mut TReader<'_>,
 ) -> Result<Sequence<T>, ReadError>
     requires { offset ≤ reader.old.total }
-    ensures { ReadsHere (λ x. x) reader.old reader.new result (list_field_at T.KIND T.item_at kind (reader.old.total - offset) reader.old.rest) }
+    ensures { ReadsHere (λ x. x) reader.old reader.new result
+        (list_field_at T.KIND T.item_at kind (reader.old.total - offset) reader.old.rest) }
 {
     if kind != LIST {
         return Err(bad_at(offset));

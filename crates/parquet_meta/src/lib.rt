@@ -18,7 +18,9 @@ mod writing;
 pub use chunk::{Chunk, Chunks};
 pub use element::{Element, Elements};
 pub use file_meta::{FileMeta, read_meta, write_meta};
-pub use laws::{written_footers_are_read, written_headers_are_read};
+pub use laws::{
+    footers_are_structs, headers_are_structs, written_footers_are_read, written_headers_are_read,
+};
 pub use page_header::{PageHeader, read_page_header, write_page_header};
 pub use read_error::MetaError;
 pub use row_group::{RowGroup, RowGroups};

@@ -187,7 +187,7 @@ impl Fields for PageHeaderFields {
 
 /// The header at the beginning of the bytes, and how many bytes it takes. Other bytes may follow it.
 pub fn read_page_header(alloc: Global, bytes: &[u8]) -> Result<(PageHeader, usize), MetaError>
-    ensures { AnswersHeader (length bytes.now) result (page_header_at bytes.now) }
+    ensures { AnswersHeader bytes.now result (page_header_at bytes.now) }
 {
     let mut reader = TReader::new(bytes);
     match read_struct::<PageHeaderFields>(alloc, &mut reader) {
@@ -199,7 +199,8 @@ pub fn read_page_header(alloc: Global, bytes: &[u8]) -> Result<(PageHeader, usiz
 // Adds the header's DataPageHeader as a field.
 fn put_data_page(writer: &mut TWriter, header: &PageHeader) -> Result<(), AllocError>
     requires { TakesField (pos 5) writer.old.levels }
-    ensures { OnOk result (writer.new ≡ with_field (record { id = pos 5; kind = 12; value = data_page_bytes header.now }) writer.old) }
+    ensures { OnOk result
+        (writer.new ≡ with_field (record { id = pos 5; kind = 12; value = data_page_bytes header.now }) writer.old) }
 {
     writer.field_struct(DATA_PAGE_HEADER)?;
     writer.field_i32(NUM_VALUES, header.values)?;

@@ -79,7 +79,9 @@ pub(crate) fn put_list<T: PutItem>(
     requires field { TakesField id writer.old.levels }
     requires short { length items.now < 2 ^ 32 }
     requires fits { All T.fits items.now }
-    ensures { OnOk result (writer.new ≡ with_field (record { id = id; kind = 9; value = list_bytes T.KIND T.item_bytes items.now }) writer.old) }
+    ensures { OnOk result
+        (writer.new ≡ with_field
+        (record { id = id; kind = 9; value = list_bytes T.KIND T.item_bytes items.now }) writer.old) }
 {
     writer.field_list(id, T::KIND, items.len() as u32)?;
     for item in items {
@@ -96,7 +98,8 @@ pub(crate) fn put_optional(
 ) -> Result<(), AllocError>
     requires { TakesField id writer.old.levels }
     ensures written { OnOk result (writer.new ≡ with_fields (optional_field id number) writer.old) }
-    ensures later { (next : ℤ) → id <ℤ next → TakesField next writer.old.levels → OnOk result (TakesField next writer.new.levels) }
+    ensures later { (next : ℤ) → id <ℤ next → TakesField next writer.old.levels →
+        OnOk result (TakesField next writer.new.levels) }
 {
     match number {
         Some(number) => writer.field_i32(id, number),

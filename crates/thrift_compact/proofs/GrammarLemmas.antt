@@ -40,13 +40,13 @@ pub record Known (read : List ℕ → Passing) (P : List ℕ → Type 0) : Type 
 
 -- ---- numbers and bytes
 
-size_takes : (w : ℕ) → w ≤ 64 → Takes (varint_at w) (λ n bytes. IsSize w n bytes)
+pub size_takes : (w : ℕ) → w ≤ 64 → Takes (varint_at w) (λ n bytes. IsSize w n bytes)
 size_takes w le = record {
   took = λ bytes rest n e. (let f = varint_at_found w n bytes rest le e in (f.0, f.1, (f.2, f.3)));
   again = λ value rest n is. varint_at_again w value rest n is.0 is.1;
 }
 
-number_takes : (w : ℕ) → w ≤ 64 → Takes (zigzag_at w) (λ z bytes. IsSize w (zigzag z) bytes)
+pub number_takes : (w : ℕ) → w ≤ 64 → Takes (zigzag_at w) (λ z bytes. IsSize w (zigzag z) bytes)
 unfolding zigzag_at
 number_takes w le = record {
   took = λ bytes rest z e. (
@@ -59,7 +59,7 @@ number_takes w le = record {
 }
 
 -- one of two results
-if_Ok : {A : Type 0} (test : Bool) (x y : Reading A) (found : A × List ℕ) → (if test then x else y) ≡ Ok found → ((test ≡ true) × (x ≡ Ok found)) ⊎ ((test ≡ false) × (y ≡ Ok found))
+pub if_Ok : {A : Type 0} (test : Bool) (x y : Reading A) (found : A × List ℕ) → (if test then x else y) ≡ Ok found → ((test ≡ true) × (x ≡ Ok found)) ⊎ ((test ≡ false) × (y ≡ Ok found))
 if_Ok true x y found e = inl (refl, e)
 if_Ok false x y found e = inr (refl, e)
 
@@ -80,7 +80,7 @@ bytes_takes n = record {
       ap (λ (k : ℕ). bytes_at k (value ++ rest)) (sym is.1) ∙ bytes_at_again value rest ∙ ap (λ (c : List ℕ). Ok (c, rest)) (sym is.0);
 }
 
-binary_takes : Takes (prefixed_at (varint_at 32)) (λ content bytes. (size : List ℕ) × (bytes ≡ size ++ content) × IsSize 32 (length content) size)
+pub binary_takes : Takes (prefixed_at (varint_at 32)) (λ content bytes. (size : List ℕ) × (bytes ≡ size ++ content) × IsSize 32 (length content) size)
 unfolding prefixed_at length_then_bytes_at
 binary_takes = record {
   took = λ bytes rest content e. (
@@ -176,7 +176,7 @@ pair_known value Value known key_kind value_kind = known_then (item_at value key
 
 -- ---- lists
 
-list_takes : Takes list_at (λ head bytes. IsListHead head.0 head.1 bytes)
+pub list_takes : Takes list_at (λ head bytes. IsListHead head.0 head.1 bytes)
 unfolding list_at size_at
 list_takes = record { took = λ bytes rest head e. took bytes rest head e; again = λ value rest head is. again value rest head is }
   where
@@ -246,7 +246,7 @@ same_value x y o p e f g = cc
 not_both : {A : Type 0} (x : A) (o : Option A) → o ≡ None → o ≡ Some x → ⊥
 not_both x o e f = cc
 
-field_took : (last : ℤ) (bytes rest : List ℕ) (id : ℤ) (kind : ℕ) → field_at last bytes ≡ Ok (Some (id, kind), rest) → (head : List ℕ) × (bytes ≡ head ++ rest) × IsFieldHead last id kind head
+pub field_took : (last : ℤ) (bytes rest : List ℕ) (id : ℤ) (kind : ℕ) → field_at last bytes ≡ Ok (Some (id, kind), rest) → (head : List ℕ) × (bytes ≡ head ++ rest) × IsFieldHead last id kind head
 unfolding field_at
 field_took last [] rest id kind e = absurd cc
 field_took last (byte ∷ tail) rest id kind e =
@@ -271,7 +271,7 @@ field_took last (byte ∷ tail) rest id kind e =
         let both = same_value (z, k) (z', k') (Some (z, k)) (Some (z', k')) refl refl (ap (λ (p : Option (ℤ × ℕ) × List ℕ). p.0) same) in
         (ap (λ (q : ℤ × ℕ). q.0) both, ap (λ (q : ℤ × ℕ). q.1) both, ap (λ (p : Option (ℤ × ℕ) × List ℕ). p.1) same)
 
-field_again : (last : ℤ) (head rest : List ℕ) (id : ℤ) (kind : ℕ) → IsFieldHead last id kind head → field_at last (head ++ rest) ≡ Ok (Some (id, kind), rest)
+pub field_again : (last : ℤ) (head rest : List ℕ) (id : ℤ) (kind : ℕ) → IsFieldHead last id kind head → field_at last (head ++ rest) ≡ Ok (Some (id, kind), rest)
 unfolding field_at
 field_again last [] rest id kind is = absurd is
 field_again last (byte ∷ more) rest id kind is =
@@ -281,7 +281,7 @@ field_again last (byte ∷ more) rest id kind is =
     ∙ ap (λ (k : ℕ). Ok (Some (id, k), rest)) (sym is.2))
 
 -- the stop byte
-stop_is : (last : ℤ) (bytes tail : List ℕ) → field_at last bytes ≡ Ok (None, tail) → bytes ≡ 0 ∷ tail
+pub stop_is : (last : ℤ) (bytes tail : List ℕ) → field_at last bytes ≡ Ok (None, tail) → bytes ≡ 0 ∷ tail
 unfolding field_at
 stop_is last [] tail e = absurd cc
 stop_is last (byte ∷ more) tail e =

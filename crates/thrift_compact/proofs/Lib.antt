@@ -1,3 +1,4 @@
 pub mod WithinLemmas
 pub mod FieldsLemmas
 pub mod GrammarLemmas
+pub mod LevelLemmas

@@ -28,4 +28,5 @@ error_of total (BadThrift offset) = Bad (total - offset)
 -- The call answers what reading gives and goes on behind it, or names the item that can't be read and moves nothing.
 abbrev pub Reads : {X Y : Type 0} → (X → Y) → Cursor → Cursor → Result X ThriftError → Reading Y → Type 0
 Reads view old new (Ok x) read = (read ≡ Ok (view x, new.rest)) × (new.total ≡ old.total)
-Reads view old new (Err error) read = (read ≡ Err (error_of old.total error)) × (offset_named error ≤ old.total) × (new ≡ old)
+Reads view old new (Err error) read = (read ≡ Err (error_of old.total error)) × (offset_named error ≤ old.total)
+    × (new ≡ old)

@@ -35,7 +35,8 @@ IsScalar Binary bytes = IsBinary bytes
 
 -- an item, a key or a value in a map: a boolean is a byte of any value
 abbrev pub IsItem : (ℕ → List ℕ → Type 0) → ℕ → List ℕ → Type 0
-IsItem Value kind bytes = ((is_boolean kind ≡ true) × (length bytes ≡ 1)) ⊎ ((is_boolean kind ≡ false) × Value kind bytes)
+IsItem Value kind bytes = ((is_boolean kind ≡ true) × (length bytes ≡ 1))
+    ⊎ ((is_boolean kind ≡ false) × Value kind bytes)
 
 -- so many parts, one after another
 abbrev pub AreParts : (List ℕ → Type 0) → ℕ → List ℕ → Type 0
@@ -45,11 +46,13 @@ AreParts Part (suc n) bytes = (first more : List ℕ) × (bytes ≡ first ++ mor
 -- the head of a list or a set of so many items of a type
 abbrev pub IsListHead : ℕ → ℕ → List ℕ → Type 0
 IsListHead kind n [] = ⊥
-IsListHead kind n (byte ∷ more) = (is_type kind ≡ true) × (kind ≡ byte % 16) × (((byte / 16 ≡ 15) × IsSize 32 n more) ⊎ ((byte / 16 ≢ 15) × (n ≡ byte / 16) × (more ≡ [])))
+IsListHead kind n (byte ∷ more) = (is_type kind ≡ true) × (kind ≡ byte % 16)
+    × (((byte / 16 ≡ 15) × IsSize 32 n more) ⊎ ((byte / 16 ≢ 15) × (n ≡ byte / 16) × (more ≡ [])))
 
 -- a key and its value
 abbrev pub IsPair : (ℕ → List ℕ → Type 0) → ℕ → ℕ → List ℕ → Type 0
-IsPair Value key_kind value_kind bytes = (key value : List ℕ) × (bytes ≡ key ++ value) × IsItem Value key_kind key × IsItem Value value_kind value
+IsPair Value key_kind value_kind bytes = (key value : List ℕ) × (bytes ≡ key ++ value) × IsItem Value key_kind key
+    × IsItem Value value_kind value
 
 -- the byte of the types of a map's keys and values
 pub record IsPairTypes (key_kind value_kind byte : ℕ) : Type 0 where
@@ -62,7 +65,8 @@ pub record IsPairTypes (key_kind value_kind byte : ℕ) : Type 0 where
 abbrev pub IsMap : (ℕ → List ℕ → Type 0) → List ℕ → Type 0
 IsMap Value bytes =
     IsSize 32 0 bytes
-    ⊎ ((n key_kind value_kind byte : ℕ) × (size pairs : List ℕ) × (bytes ≡ size ++ byte ∷ pairs) × (n ≢ 0) × IsSize 32 n size × IsPairTypes key_kind value_kind byte × AreParts (IsPair Value key_kind value_kind) n pairs)
+    ⊎ ((n key_kind value_kind byte : ℕ) × (size pairs : List ℕ) × (bytes ≡ size ++ byte ∷ pairs) × (n ≢ 0)
+    × IsSize 32 n size × IsPairTypes key_kind value_kind byte × AreParts (IsPair Value key_kind value_kind) n pairs)
 
 -- ---- structs
 
@@ -77,17 +81,20 @@ abbrev pub IsFieldHead : ℤ → ℤ → ℕ → List ℕ → Type 0
 IsFieldHead last id kind [] = ⊥
 IsFieldHead last id kind (byte ∷ more) =
     (byte ≢ 0) × (is_type kind ≡ true) × (kind ≡ byte % 16)
-    × (((byte / 16 ≡ 0) × IsSize 16 (zigzag id) more) ⊎ ((byte / 16 ≢ 0) × (id ≡ last +ℤ pos (byte / 16)) × (int_le id (pos 32767) ≡ true) × (more ≡ [])))
+    × (((byte / 16 ≡ 0) × IsSize 16 (zigzag id) more)
+    ⊎ ((byte / 16 ≢ 0) × (id ≡ last +ℤ pos (byte / 16)) × (int_le id (pos 32767) ≡ true) × (more ≡ [])))
 
 -- fields and the stop byte
 abbrev pub AreFields : (ℕ → List ℕ → Type 0) → ℤ → List RawField → List ℕ → Type 0
 AreFields Value last [] bytes = bytes ≡ 0 ∷ []
-AreFields Value last (field ∷ fields) bytes = (head more : List ℕ) × (bytes ≡ head ++ (field.value ++ more)) × IsFieldHead last field.id field.kind head × Value field.kind field.value × AreFields Value field.id fields more
+AreFields Value last (field ∷ fields) bytes = (head more : List ℕ) × (bytes ≡ head ++ (field.value ++ more))
+    × IsFieldHead last field.id field.kind head × Value field.kind field.value × AreFields Value field.id fields more
 
 -- ---- any value
 
 abbrev pub IsContainer : (ℕ → List ℕ → Type 0) → Container → List ℕ → Type 0
-IsContainer Value Items bytes = (kind n : ℕ) × (head items : List ℕ) × (bytes ≡ head ++ items) × IsListHead kind n head × AreParts (IsItem Value kind) n items
+IsContainer Value Items bytes = (kind n : ℕ) × (head items : List ℕ) × (bytes ≡ head ++ items) × IsListHead kind n head
+    × AreParts (IsItem Value kind) n items
 IsContainer Value Pairs bytes = IsMap Value bytes
 IsContainer Value Fields bytes = (fields : List RawField) × AreFields Value (pos 0) fields bytes
 
@@ -96,4 +103,5 @@ unfoldable pub IsValue : ℕ → ℕ → List ℕ → Type 0
 IsValue zero kind bytes = (scalar : Scalar) × (shape_of kind ≡ Some (OfScalar scalar)) × IsScalar scalar bytes
 IsValue (suc levels) kind bytes =
     ((scalar : Scalar) × (shape_of kind ≡ Some (OfScalar scalar)) × IsScalar scalar bytes)
-    ⊎ ((container : Container) × (shape_of kind ≡ Some (OfContainer container)) × IsContainer (IsValue levels) container bytes)
+    ⊎ ((container : Container) × (shape_of kind ≡ Some (OfContainer container))
+    × IsContainer (IsValue levels) container bytes)

@@ -26,7 +26,8 @@ unfoldable pub field_at : ℤ → List ℕ → Reading (Option (ℤ × ℕ))
 field_at last [] = Err (Short 0)
 field_at last (byte ∷ rest) =
     if byte == 0 then Ok (None, rest)
-    else if is_type (low_half byte) then as_item (byte ∷ rest) (id_at last (high_half byte) rest >>= λ id. Ok (Some (id.0, low_half byte), id.1))
+    else if is_type (low_half byte) then as_item (byte ∷ rest)
+    (id_at last (high_half byte) rest >>= λ id. Ok (Some (id.0, low_half byte), id.1))
     else Err (Bad (length (byte ∷ rest)))
 
 -- how many items there are: below 15 in the head's first byte, else as a number that follows
@@ -37,19 +38,22 @@ size_at half bytes = if half == 15 then varint_at 32 bytes else Ok (half, bytes)
 unfoldable pub list_at : List ℕ → Reading (ℕ × ℕ)
 list_at [] = Err (Short 0)
 list_at (byte ∷ rest) =
-    if is_type (low_half byte) then as_item (byte ∷ rest) (size_at (high_half byte) rest >>= λ size. Ok ((low_half byte, size.0), size.1))
+    if is_type (low_half byte) then as_item (byte ∷ rest)
+    (size_at (high_half byte) rest >>= λ size. Ok ((low_half byte, size.0), size.1))
     else Err (Bad (length (byte ∷ rest)))
 
 -- the types of a map's keys and values
 unfoldable pub pair_types_at : List ℕ → Reading (ℕ × ℕ)
 pair_types_at [] = Err (Short 0)
-pair_types_at (byte ∷ rest) = only_if (is_type (high_half byte) && is_type (low_half byte)) (byte ∷ rest) ((high_half byte, low_half byte), rest)
+pair_types_at (byte ∷ rest) = only_if (is_type (high_half byte) && is_type (low_half byte)) (byte ∷ rest)
+    ((high_half byte, low_half byte), rest)
 
 -- the size of a map that has pairs, and their types
 unfoldable pub map_parts_at : List ℕ → Reading (Option (ℕ × ℕ × ℕ))
 map_parts_at bytes =
     varint_at 32 bytes >>= λ size.
-    if size.0 == 0 then Ok (None, size.1) else (pair_types_at size.1 >>= λ types. Ok (Some (size.0, types.0.0, types.0.1), types.1))
+    if size.0 == 0 then Ok (None, size.1) else
+    (pair_types_at size.1 >>= λ types. Ok (Some (size.0, types.0.0, types.0.1), types.1))
 
 -- the same as one item
 unfoldable pub map_at : List ℕ → Reading (Option (ℕ × ℕ × ℕ))

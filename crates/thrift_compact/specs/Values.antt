@@ -31,7 +31,8 @@ unfoldable pub fields_at : {S : Type 0} → (S → ℤ → ℕ → ℕ → List 
 fields_at take zero last so_far bytes = Err (Short (length bytes))
 fields_at take (suc steps) last so_far bytes =
     field_at last bytes >>= λ head.
-    option_map_or (λ field. take so_far field.0 field.1 (length bytes) head.1 >>= λ next. fields_at take steps field.0 next.0 next.1) head.0 (Ok (so_far, head.1))
+    option_map_or (λ field. take so_far field.0 field.1 (length bytes) head.1 >>= λ next.
+    fields_at take steps field.0 next.0 next.1) head.0 (Ok (so_far, head.1))
 
 -- a struct's fields, of which the last id is 0 at first
 abbrev pub struct_at : {S : Type 0} → (S → ℤ → ℕ → ℕ → List ℕ → Reading S) → S → List ℕ → Reading S
@@ -69,7 +70,8 @@ passing value so_far id kind left bytes = value kind bytes
 -- a list or a set, a map or a struct, given how the values in it are read
 unfoldable pub container_at : (ℕ → List ℕ → Passing) → Container → List ℕ → Passing
 container_at value Items bytes = list_at bytes >>= λ head. times_at head.0.1 (item_at value head.0.0) head.1
-container_at value Pairs bytes = map_at bytes >>= λ head. option_map_or (λ pairs. times_at pairs.0 (pair_at value pairs.1 pairs.2) head.1) head.0 (Ok (tt, head.1))
+container_at value Pairs bytes = map_at bytes >>= λ head.
+    option_map_or (λ pairs. times_at pairs.0 (pair_at value pairs.1 pairs.2) head.1) head.0 (Ok (tt, head.1))
 container_at value Fields bytes = struct_at (passing value) tt bytes
 
 -- a container one level too deep: bad at its first byte
@@ -84,4 +86,5 @@ shaped_at container (OfContainer shape) bytes = container shape bytes
 -- The value of a field of the type, which must be one of the twelve, with containers in at most so many levels.
 unfoldable pub value_at : ℕ → ℕ → List ℕ → Passing
 value_at zero kind bytes = only_some (shape_of kind) bytes >>= λ shape. shaped_at too_deep_at shape bytes
-value_at (suc levels) kind bytes = only_some (shape_of kind) bytes >>= λ shape. shaped_at (container_at (value_at levels)) shape bytes
+value_at (suc levels) kind bytes = only_some (shape_of kind) bytes >>= λ shape.
+    shaped_at (container_at (value_at levels)) shape bytes

@@ -14,4 +14,5 @@ Stays read = (bytes : List ℕ) → Within (length bytes) (length bytes) (read b
 
 -- what takes a field's value stays within the field
 abbrev pub TakeStays : {S : Type 0} → (S → ℤ → ℕ → ℕ → List ℕ → Reading S) → Type 0
-TakeStays {S} take = (so_far : S) (id : ℤ) (kind left : ℕ) (bytes : List ℕ) → length bytes ≤ left → Within left (length bytes) (take so_far id kind left bytes)
+TakeStays {S} take = (so_far : S) (id : ℤ) (kind left : ℕ) (bytes : List ℕ) → length bytes ≤ left →
+    Within left (length bytes) (take so_far id kind left bytes)

@@ -34,7 +34,10 @@ impl Model for TWriter {
 
     ghost Value = { Written };
 
-    ghost view = { λ writer. record { bytes = writer.bytes.items; levels = levels_of writer.level writer.outer.items } };
+    ghost view = { λ writer. record {
+      bytes = writer.bytes.items;
+      levels = levels_of writer.level writer.outer.items;
+    } };
 }
 
 // Adds the first byte and a number, or nothing.
@@ -162,7 +165,12 @@ impl TWriter {
     /// Adds a field that is a number of 32 bits.
     pub fn field_i32(&mut self, id: i16, number: i32) -> Result<(), AllocError>
         requires { TakesField id self.old.levels }
-        ensures ok { OnOk result (self.new ≡ record { bytes = self.old.bytes ++ field_head (difference_of id self.old.levels) I32 ++ varint (zigzag number); levels = after_field id self.old.levels }) }
+        ensures ok { OnOk result
+            (self.new ≡ record {
+              bytes = self.old.bytes ++ field_head (difference_of id self.old.levels) I32
+                  ++ varint (zigzag number);
+              levels = after_field id self.old.levels;
+            }) }
         ensures err { OnErr result (self.new ≡ self.old) }
     {
         let head = self.field_head(id, I32);
@@ -174,7 +182,12 @@ impl TWriter {
     /// Adds a field that is a number of 64 bits.
     pub fn field_i64(&mut self, id: i16, number: i64) -> Result<(), AllocError>
         requires { TakesField id self.old.levels }
-        ensures ok { OnOk result (self.new ≡ record { bytes = self.old.bytes ++ field_head (difference_of id self.old.levels) I64 ++ varint (zigzag number); levels = after_field id self.old.levels }) }
+        ensures ok { OnOk result
+            (self.new ≡ record {
+              bytes = self.old.bytes ++ field_head (difference_of id self.old.levels) I64
+                  ++ varint (zigzag number);
+              levels = after_field id self.old.levels;
+            }) }
         ensures err { OnErr result (self.new ≡ self.old) }
     {
         let head = self.field_head(id, I64);
@@ -187,7 +200,12 @@ impl TWriter {
     pub fn field_binary(&mut self, id: i16, content: &[u8]) -> Result<(), AllocError>
         requires field { TakesField id self.old.levels }
         requires short { length content.now < 2 ^ 32 }
-        ensures ok { OnOk result (self.new ≡ record { bytes = self.old.bytes ++ field_head (difference_of id self.old.levels) BINARY ++ with_length varint content.now; levels = after_field id self.old.levels }) }
+        ensures ok { OnOk result
+            (self.new ≡ record {
+              bytes = self.old.bytes ++ field_head (difference_of id self.old.levels) BINARY
+                  ++ with_length varint content.now;
+              levels = after_field id self.old.levels;
+            }) }
         ensures err { OnErr result (self.new ≡ self.old) }
     {
         let head = self.field_head(id, BINARY);
@@ -200,7 +218,12 @@ impl TWriter {
     pub fn field_list(&mut self, id: i16, kind: u8, len: u32) -> Result<(), AllocError>
         requires field { TakesField id self.old.levels }
         requires kind { IsItemType kind }
-        ensures ok { OnOk result (self.new ≡ record { bytes = self.old.bytes ++ field_head (difference_of id self.old.levels) LIST ++ list_head kind len; levels = with_items kind len (after_field id self.old.levels) }) }
+        ensures ok { OnOk result
+            (self.new ≡ record {
+              bytes = self.old.bytes ++ field_head (difference_of id self.old.levels) LIST
+                  ++ list_head kind len;
+              levels = with_items kind len (after_field id self.old.levels);
+            }) }
         ensures err { OnErr result (self.new ≡ self.old) }
     {
         let head = self.field_head(id, LIST);
@@ -225,7 +248,11 @@ impl TWriter {
     /// Adds a field that is a struct, whose fields are added next, and then its stop byte.
     pub fn field_struct(&mut self, id: i16) -> Result<(), AllocError>
         requires { TakesField id self.old.levels }
-        ensures ok { OnOk result (self.new ≡ record { bytes = self.old.bytes ++ field_head (difference_of id self.old.levels) STRUCT; levels = Level.Struct (pos 0) ∷ after_field id self.old.levels }) }
+        ensures ok { OnOk result
+            (self.new ≡ record {
+              bytes = self.old.bytes ++ field_head (difference_of id self.old.levels) STRUCT;
+              levels = Level.Struct (pos 0) ∷ after_field id self.old.levels;
+            }) }
         ensures err { OnErr result (self.new ≡ self.old) }
     {
         let head = self.field_head(id, STRUCT);
@@ -245,7 +272,11 @@ impl TWriter {
     /// Adds an item of a list of numbers.
     pub fn item_i32(&mut self, number: i32) -> Result<(), AllocError>
         requires { TakesItem I32 self.old.levels }
-        ensures ok { OnOk result (self.new ≡ record { bytes = self.old.bytes ++ varint (zigzag number); levels = after_item self.old.levels }) }
+        ensures ok { OnOk result
+            (self.new ≡ record {
+              bytes = self.old.bytes ++ varint (zigzag number);
+              levels = after_item self.old.levels;
+            }) }
         ensures err { OnErr result (self.new ≡ self.old) }
     {
         put_zigzag(&mut self.bytes, i64::from(number))?;
@@ -257,7 +288,11 @@ impl TWriter {
     pub fn item_binary(&mut self, content: &[u8]) -> Result<(), AllocError>
         requires item { TakesItem BINARY self.old.levels }
         requires short { length content.now < 2 ^ 32 }
-        ensures ok { OnOk result (self.new ≡ record { bytes = self.old.bytes ++ with_length varint content.now; levels = after_item self.old.levels }) }
+        ensures ok { OnOk result
+            (self.new ≡ record {
+              bytes = self.old.bytes ++ with_length varint content.now;
+              levels = after_item self.old.levels;
+            }) }
         ensures err { OnErr result (self.new ≡ self.old) }
     {
         put_varint_prefixed(&mut self.bytes, content)?;
@@ -268,7 +303,8 @@ impl TWriter {
     /// Begins an item of a list of structs, whose fields are added next, and then its stop byte.
     pub fn item_struct(&mut self) -> Result<(), AllocError>
         requires { TakesItem STRUCT self.old.levels }
-        ensures ok { OnOk result (self.new ≡ record self.old { levels = Level.Struct (pos 0) ∷ after_item self.old.levels }) }
+        ensures ok { OnOk result
+            (self.new ≡ record self.old { levels = Level.Struct (pos 0) ∷ after_item self.old.levels }) }
         ensures err { OnErr result (self.new ≡ self.old) }
     {
         if let Some(Level::Items { kind, left }) = self.level {
@@ -284,7 +320,8 @@ impl TWriter {
     /// Ends the innermost struct.
     pub fn stop(&mut self) -> Result<(), AllocError>
         requires { IsInStruct self.old.levels }
-        ensures ok { OnOk result (self.new ≡ record { bytes = self.old.bytes ++ 0 ∷ []; levels = after_struct self.old.levels }) }
+        ensures ok { OnOk result
+            (self.new ≡ record { bytes = self.old.bytes ++ 0 ∷ []; levels = after_struct self.old.levels }) }
         ensures err { OnErr result (self.new ≡ self.old) }
     {
         self.bytes.push(0)?;

@@ -1,7 +1,7 @@
 #!/usr/bin/env python3
 """Tries the Avro crates beside the package avro of Apache, in both directions.
 
-Run: interop.py PROGRAM, where PROGRAM is the built codec_tool. tests/interop.sh runs it.
+Run: interop_avro.py PROGRAM, where PROGRAM is the built codec_tool. tests/interop.sh runs it.
 
 Values of a schema with each kind of type are made here, each with the JSON that the program prints of it. The package
 writes them and the program reads them; the program writes them and the package reads them.
