@@ -10,6 +10,7 @@ use Rattle.table_history.specs.Histories.{History}
 use Rattle.table_history.specs.Instants.{targets_of}
 use Rattle.table_history.specs.Tables.{Table, KnownFile}
 use Rattle.table_history.specs.Targets.{is_target}
+use Rattle.table_history.specs.declared.log_file.LogFile.{LogFile}
 use Rattle.table_history.specs.declared.reply.Reply.{Reply}
 use Rattle.table_history.specs.declared.reply.Reply.TheVariants.{Placed, Fault}
 use Rattle.table_history.specs.declared.step.Step.{Step}
@@ -95,13 +96,6 @@ abbrev pub log_name : Table → Target → ℕ → ℕ → List ℕ
 log_name A s version attempt = name_of A.name (log_file A s version attempt)
 
 -- ---- the files of a slice
-
--- a log: its version, who made it, and its known length
-pub record LogFile : Type 0 where
-  pub version : ℕ
-  pub session : ℕ
-  pub attempt : ℕ
-  pub length : ℕ
 
 -- a log among logs, the greatest version first
 abbrev pub insert_log : LogFile → List LogFile → List LogFile

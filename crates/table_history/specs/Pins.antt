@@ -7,10 +7,11 @@ use Rattle.file_names.specs.FileName.{name_of}
 use Rattle.file_names.specs.declared.file_name.FileName.TheVariants.{Log}
 use Rattle.table_history.specs.Histories.{History}
 use Rattle.table_history.specs.Instants.{completed_instants, latest}
-use Rattle.table_history.specs.Logs.{LogFile, logs_of}
+use Rattle.table_history.specs.Logs.{logs_of}
 use Rattle.table_history.specs.Tables.{Table}
 use Rattle.table_history.specs.Targets.{one_group}
 use Rattle.table_history.specs.declared.job.Job.{Job}
+use Rattle.table_history.specs.declared.log_file.LogFile.{LogFile}
 use Rattle.table_history.specs.declared.reply.Reply.{Reply}
 use Rattle.table_history.specs.declared.reply.Reply.TheVariants.{Pinned, Done}
 use Rattle.table_history.specs.declared.step.Step.{Step}

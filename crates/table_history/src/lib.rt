@@ -9,6 +9,7 @@
 mod entry;
 mod job;
 mod laws;
+mod log_file;
 mod operation;
 mod reply;
 mod step;
@@ -19,6 +20,7 @@ mod work;
 pub use entry::{Entry, Mark};
 pub use job::Job;
 pub use laws::{entries_leave_others, jobs_may_ask, owned_instants_were_drawn};
+pub use log_file::LogFile;
 pub use operation::{Decision, Op};
 pub use reply::{Cause, Reply};
 pub use step::{PartitionSlots, Reader, Step};
