@@ -1,0 +1,83 @@
+-- Owned instants, at each kind of step.
+use Rattle.std.proofs.Common.{◌≡◌, ◌⊎◌, inl, inr, ◌≤◌, ℕ, true, false, List, [], ◌∷◌, Some, refl, sym, ap, ◌∙◌, subst, arith}
+use Rattle.std.specs.List.{AllByRecursion}
+use Rattle.hudi_base.specs.InstantTime.{IsTime}
+use Rattle.hudi_base.specs.declared.file_group.Target.{Target}
+use Rattle.file_names.specs.declared.file_name.State.{State}
+use Rattle.file_names.specs.declared.file_name.State.TheVariants.{Requested, Inflight}
+use Rattle.table_history.specs.After.{after_history, greatest_in}
+use Rattle.table_history.specs.Histories.{History}
+use Rattle.table_history.specs.Instants.{instant_of, begun, entered, with_block}
+use Rattle.table_history.specs.Tables.{Table, Instant}
+use Rattle.table_history.specs.Targets.{targets_of_slots}
+use Rattle.table_history.specs.declared.job.Job.{Job}
+use Rattle.table_history.specs.declared.step.PartitionSlots.{PartitionSlots}
+use Rattle.table_images.specs.Kept.{OwnedInstants, IsOwnedWrite, IsCurrent}
+use Rattle.table_images.specs.Timeline.{has_reached}
+use Rattle.table_images.proofs.Advances.{Advances, IsNoMore, KeepsLine, number_cases}
+use Rattle.table_images.proofs.Lines.{first_least, some_same}
+
+current_more : (A : Table) (H K : History) (targets : List Target) → greatest_in (after_history A H).instants ≤ greatest_in (after_history A K).instants
+    → AllByRecursion (IsCurrent (after_history A H)) targets → AllByRecursion (IsCurrent (after_history A K)) targets
+current_more A H K [] le all = tt
+current_more A H K (s ∷ targets) le all =
+    (record { live = all.0.live; slice = all.0.slice; bounded = omega (arith, all.0.bounded, le) }, current_more A H K targets le all.1)
+
+pub owned_more : (A : Table) (H K : History) (t : ℕ) (i : Instant) → greatest_in (after_history A H).instants ≤ greatest_in (after_history A K).instants
+    → IsOwnedWrite (after_history A H) t i → IsOwnedWrite (after_history A K) t i
+owned_more A H K t i le owned =
+    record { action = owned.action; pending = owned.pending; time = owned.time; targets = current_more A H K i.targets le owned.targets; unplaced = owned.unplaced }
+
+pub owned_still : (A : Table) (H K : History) → KeepsLine IsNoMore A H K → greatest_in (after_history A H).instants ≤ greatest_in (after_history A K).instants → OwnedInstants A H → OwnedInstants A K
+unfolding OwnedInstants
+owned_still A H K line le owned t found job is owner =
+    let was = line.old t found is in
+    let old = owned_more A H K t was.old le (owned t was.old job was.was (was.same.owner job owner)) in
+    record {
+      action = was.same.action ∙ old.action;
+      pending = subst (λ (s : State). (s ≡ Requested) ⊎ (s ≡ Inflight)) (sym was.same.state) old.pending;
+      time = old.time;
+      targets = subst (AllByRecursion (IsCurrent (after_history A K))) (sym was.same.targets) old.targets;
+      unplaced = λ requested. was.same.blocks ∙ old.unplaced (sym was.same.state ∙ requested);
+    }
+
+-- an instant that advanced, and the others
+pub owned_advanced : (A : Table) (H K : History) (t : ℕ) (s : State) (new : Instant) → Advances A H K t s new → greatest_in (after_history A H).instants ≤ greatest_in (after_history A K).instants
+    → ((job : Job) → new.owner ≡ Some job → IsOwnedWrite (after_history A K) t new) → OwnedInstants A H → OwnedInstants A K
+unfolding OwnedInstants
+owned_advanced A H K t s new advance le here owned u found job is owner = by_case (number_cases t u)
+  where
+    by_case : (t ≡ u) ⊎ (t ≡ u → ⊥) → IsOwnedWrite (after_history A K) u found
+    by_case (inl same) =
+        let one : new ≡ found = some_same (sym advance.at ∙ ap (instant_of A K) same ∙ is) in
+        subst (λ n. IsOwnedWrite (after_history A K) n found) same (subst (IsOwnedWrite (after_history A K) t) one (here job (ap (λ (i : Instant). i.owner) one ∙ owner)))
+    by_case (inr other) = owned_more A H K u found le (owned u found job (sym (advance.others u other) ∙ is) owner)
+
+pub owned-begun : (A : Table) (t : ℕ) (job : Job) (number : ℕ) → IsTime t → IsOwnedWrite A t (begun job number)
+owned-begun A t job number time = record { action = refl; pending = inl refl; time = time; targets = tt; unplaced = λ is. refl }
+
+current_targets : (A : Table) (slots : List PartitionSlots) → AllByRecursion (IsCurrent A) (targets_of_slots slots)
+current_targets A [] = tt
+current_targets A (asked ∷ more) = (record { live = refl; slice = refl; bounded = first_least A.instants }, tt)
+
+pub owned-entered : (A : Table) (t : ℕ) (i : Instant) (slots : List PartitionSlots) (targets : List Target) → targets ≡ targets_of_slots slots → i.state ≡ Requested → IsOwnedWrite A t i
+    → IsOwnedWrite A t (entered targets i)
+owned-entered A t i slots targets are requested owned = record {
+  action = owned.action;
+  pending = inr refl;
+  time = owned.time;
+  targets = subst (AllByRecursion (IsCurrent A)) (sym are) (current_targets A slots);
+  unplaced = λ is. owned.unplaced requested;
+}
+
+pub owned-placed : (A : Table) (t : ℕ) (i : Instant) (target writes : ℕ) (bytes : List ℕ) → i.state ≡ Inflight → IsOwnedWrite A t i → IsOwnedWrite A t (with_block target writes bytes i)
+owned-placed A t i target writes bytes inflight owned = record {
+  action = owned.action;
+  pending = owned.pending;
+  time = owned.time;
+  targets = owned.targets;
+  unplaced = λ requested. absurd (apart (sym requested ∙ inflight));
+}
+  where
+    apart : Requested ≡ Inflight → ⊥
+    apart is = let wrong : false ≡ true = ap (λ s. has_reached s Inflight) is in cc

@@ -1,0 +1,174 @@
+-- All parts at one kind of step: steps that leave the logs.
+use Rattle.std.proofs.Common.{◌≡◌, inr, ◌<◌, ◌≤◌, ℕ, false, List, [], ◌∷◌, Option, Some, None, refl, sym, ap, ◌∙◌, subst, arith}
+use Rattle.std.specs.FinMap.{get, insert}
+use Rattle.hudi_base.specs.Files.{FileMap}
+use Rattle.hudi_base.specs.InstantTime.{IsTime}
+use Rattle.hudi_base.specs.declared.file_group.GroupRef.{GroupRef}
+use Rattle.hudi_base.specs.declared.file_group.Target.{Target}
+use Rattle.file_names.specs.FileName.{name_of, kind_of}
+use Rattle.file_names.specs.declared.file_name.Action.TheVariants.{Delta}
+use Rattle.file_names.specs.declared.file_name.FileName.TheVariants as file
+use Rattle.file_names.specs.declared.file_name.State.{State}
+use Rattle.file_names.specs.declared.file_name.State.TheVariants.{Requested, Inflight, Completed}
+use Rattle.file_names.proofs.NameTexts.{name_of_injective}
+use Rattle.table_history.specs.After.{after_history, greatest_in}
+use Rattle.table_history.specs.Concerns.{IsOpened}
+use Rattle.table_history.specs.Histories.{History}
+use Rattle.table_history.specs.Instants.{instant_of, completions, begun, entered, completed}
+use Rattle.table_history.specs.Tables.{Table, Instant}
+use Rattle.table_history.specs.Targets.{targets_of_slots}
+use Rattle.table_history.specs.Times.{greatest_time}
+use Rattle.table_history.specs.declared.entry.Entry.{Entry}
+use Rattle.table_history.specs.declared.job.Job.{Job}
+use Rattle.table_history.specs.declared.reply.Reply.{Reply}
+use Rattle.table_history.specs.declared.reply.Reply.TheVariants as reply
+use Rattle.table_history.specs.declared.step.PartitionSlots.{PartitionSlots}
+use Rattle.table_history.specs.declared.step.Step.{Step}
+use Rattle.table_history.specs.declared.step.Step.TheVariants.{Begin, Enter, Finish}
+use Rattle.table_history.proofs.Bounds.{undrawn}
+use Rattle.table_images.specs.Chains.{ChainsHold, IsChain, blocks_of_chain}
+use Rattle.table_images.specs.Kept.{Kept, OwnedInstants, IsOwnedWrite}
+use Rattle.table_images.specs.Timeline.{timeline_name}
+use Rattle.table_images.proofs.Advances.{Advances, IsNextState, IsNoMore, IsSameStage, KeepsLine, stage, line_weaker, advances_begun, advances_changed, greatest_was}
+use Rattle.table_images.proofs.NumberCells.{earliest_stays, stays_kept, stays_advanced, starts_kept, starts_advanced, bounded_still, bases_still}
+use Rattle.table_images.proofs.ChainCells.{Holds, HoldsHere, chain_left, chain_bounded, of_chain, to_chain, holds_still, holds_advanced, here_begun, here_entered, here_completed}
+use Rattle.table_images.proofs.Frame.{get_apart}
+use Rattle.table_images.proofs.Lines.{at_after, greatest_rises, none_some}
+use Rattle.table_images.proofs.OwnedCells.{owned_still, owned_advanced, owned_more, owned-begun, owned-entered}
+use Rattle.table_images.proofs.SameLogs.{SameLogs, LeavesLogs, IsNoAppend, same_logs, entry}
+use Rattle.table_images.proofs.WholeCells.{whole_still}
+use Rattle.table_images.proofs.KnownCells.{known_still}
+use Rattle.table_images.proofs.OpenLogCells.{logs_still}
+use Rattle.table_images.proofs.VersionCells.{versions_still}
+use Rattle.table_images.proofs.TimelineCells.{timeline_still, timeline_made}
+
+pub completions_rise : (A : Table) (H : History) (e : Entry) → completions A H ≤ completions A (e ∷ H)
+completions_rise A H e = by_reply e.reply refl
+  where
+    by_reply : (r : Reply) → e.reply ≡ r → completions A H ≤ completions A (e ∷ H)
+    by_reply (reply.Completed t) is = rw is (omega arith)
+    by_reply r is = rw is (omega arith)
+
+-- ---- a step that does nothing to the files
+
+pub row_quiet : (A : Table) (H : History) (image : FileMap) (j : Job) (s : Step) (r : Reply) → IsNoAppend s → KeepsLine IsNoMore A H (entry j s r ∷ H) → Kept A image H → Kept A image (entry j s r ∷ H)
+unfolding ChainsHold
+row_quiet A H image j s r other line kept = record {
+  timeline = timeline_still A H K image image stages (λ t action st time. refl) kept;
+  whole = whole_still A H K image image leaves kept;
+  chains = λ group named.
+      let was = kept.chains group named in
+      (was.0, chain_left A H K image image group was.0 leaves was.1, to_chain A K group was.0 (blocks_of_chain was.0) refl (holds_still A H K group (blocks_of_chain was.0) line (of_chain A H group was.0 was.2)));
+  numbers = record {
+    logs = bounded_still A H K image image leaves kept;
+    bases = bases_still A H K image image leaves kept;
+    earliest = earliest_stays A H K (stays_kept A H K stages) kept.numbers.earliest;
+    starts = starts_kept A H K stages (completions_rise A H (entry j s r)) kept.numbers.starts;
+  };
+  known = known_still A H K image image leaves kept;
+  owned = owned_still A H K line leaves.greatest kept.owned;
+  logs = logs_still A H K image image leaves kept;
+  versions = versions_still A H K image image leaves kept;
+}
+  where
+    K : History
+    K = entry j s r ∷ H
+
+    leaves : LeavesLogs A H (entry j s r ∷ H) image image
+    leaves = record { logs = same_logs A H j s r other; files = λ of named kind. refl; more = λ name bytes is. is; greatest = greatest_rises A H (entry j s r) }
+
+    stages : KeepsLine IsSameStage A H (entry j s r ∷ H)
+    stages = line_weaker IsNoMore IsSameStage stage A H (entry j s r ∷ H) line
+
+-- ---- a step that makes a file of the timeline
+
+abbrev pub with_marked : Table → FileMap → ℕ → State → FileMap
+with_marked A image t s = insert image (timeline_name A t Delta s) []
+
+leaves_made : (A : Table) (H K : History) (image : FileMap) (t : ℕ) (s : State) → IsTime t → get image (timeline_name A t Delta s) ≡ None → SameLogs A H K
+    → greatest_in (after_history A H).instants ≤ greatest_in (after_history A K).instants → LeavesLogs A H K image (with_marked A image t s)
+leaves_made A H K image t s time absent same le = record {
+  logs = same;
+  files = λ of named kind. get_apart image (timeline_name A t Delta s) [] (name_of A.name of) (λ one. kind (ap kind_of (name_of_injective A.name of (file.Instant t Delta s) named time one)));
+  more = λ name bytes is. get_apart image (timeline_name A t Delta s) [] name (λ one. none_some (sym absent ∙ ap (get image) (sym one) ∙ is)) ∙ is;
+  greatest = le;
+}
+
+row_advanced : (A : Table) (H : History) (image : FileMap) (j : Job) (st : Step) (r : Reply) (t : ℕ) (s : State) (found : Instant) → IsNoAppend st → IsTime t
+    → get image (timeline_name A t Delta s) ≡ None → Advances A H (entry j st r ∷ H) t s found → found.start ≤ completions A (entry j st r ∷ H)
+    → ((job : Job) → found.owner ≡ Some job → IsOwnedWrite (after_history A (entry j st r ∷ H)) t found)
+    → ((group : GroupRef) (chain : FileMap) → IsChain image (after_history A H) group chain → Holds A H group (blocks_of_chain chain) → HoldsHere A H group (blocks_of_chain chain) t found)
+    → Kept A image H → Kept A (with_marked A image t s) (entry j st r ∷ H)
+unfolding ChainsHold
+row_advanced A H image j st r t s found other time absent advance start owner here kept = record {
+  timeline = timeline_made A H K image t s found time advance kept;
+  whole = whole_still A H K image (with_marked A image t s) leaves kept;
+  chains = λ group named.
+      let was = kept.chains group named in
+      let holds = of_chain A H group was.0 was.2 in (
+        was.0,
+        chain_left A H K image (with_marked A image t s) group was.0 leaves was.1,
+        to_chain A K group was.0 (blocks_of_chain was.0) refl (holds_advanced A H K group (blocks_of_chain was.0) t s found advance (here group was.0 was.1 holds) holds),
+      );
+  numbers = record {
+    logs = bounded_still A H K image (with_marked A image t s) leaves kept;
+    bases = bases_still A H K image (with_marked A image t s) leaves kept;
+    earliest = earliest_stays A H K (stays_advanced A H K t s found advance) kept.numbers.earliest;
+    starts = starts_advanced A H K t s found advance (completions_rise A H (entry j st r)) start kept.numbers.starts;
+  };
+  known = known_still A H K image (with_marked A image t s) leaves kept;
+  owned = owned_advanced A H K t s found advance leaves.greatest owner kept.owned;
+  logs = logs_still A H K image (with_marked A image t s) leaves kept;
+  versions = versions_still A H K image (with_marked A image t s) leaves kept;
+}
+  where
+    K : History
+    K = entry j st r ∷ H
+
+    leaves : LeavesLogs A H (entry j st r ∷ H) image (with_marked A image t s)
+    leaves = leaves_made A H (entry j st r ∷ H) image t s time absent (same_logs A H j st r other) (greatest_rises A H (entry j st r))
+
+pub row_begun : (A : Table) (H : History) (image : FileMap) (j : Job) (t : ℕ) → IsOpened A → greatest_in A.instants ≤ A.last → greatest_time A H < t → IsTime t
+    → get image (timeline_name A t Delta Requested) ≡ None → Kept A image H → Kept A (with_marked A image t Requested) (entry j Begin (reply.Began t) ∷ H)
+row_begun A H image j t opened last above time absent kept =
+    row_advanced A H image j Begin (reply.Began t) t Requested (begun j (completions A H)) tt time absent (advances_begun A H (entry j Begin (reply.Began t)) t j (undrawn A H opened t above) (λ u. refl))
+    (completions_rise A H (entry j Begin (reply.Began t))) (λ job owner. owned-begun (after_history A (entry j Begin (reply.Began t) ∷ H)) t j (completions A H) time)
+    (λ group chain is holds. here_begun A H group (blocks_of_chain chain) t (begun j (completions A H)) (greatest_in (after_history A H).instants) higher (chain_bounded A H image group chain kept is) refl refl) kept
+  where
+    higher : greatest_in (after_history A H).instants < t
+    higher = let le = greatest_was A H opened last in omega (arith, le, above)
+
+next_of : (from from_is to : State) → from ≡ from_is → IsNextState from_is to → IsNextState from to
+next_of from from_is to is next = subst (λ s. IsNextState s to) (sym is) next
+
+start_of : (A : Table) (H : History) (image : FileMap) (t : ℕ) (i : Instant) (e : Entry) → Kept A image H → instant_of A H t ≡ Some i → i.start ≤ completions A (e ∷ H)
+start_of A H image t i e kept is =
+    let old = kept.numbers.starts t i (at_after A H t ∙ is) in
+    let rise = completions_rise A H e in
+    omega (arith, old, rise)
+
+pub row_entered : (A : Table) (H : History) (image : FileMap) (j : Job) (t : ℕ) (slots : List PartitionSlots) (targets : List Target) (i : Instant) → instant_of A H t ≡ Some i → i.owner ≡ Some j
+    → i.state ≡ Requested → targets ≡ targets_of_slots slots → get image (timeline_name A t Delta Inflight) ≡ None → Kept A image H
+    → Kept A (with_marked A image t Inflight) (entry j (Enter t slots) (reply.Entered targets) ∷ H)
+unfolding OwnedInstants
+row_entered A H image j t slots targets i is owner requested are absent kept =
+    let owned = kept.owned t i j is owner in
+    let e = entry j (Enter t slots) (reply.Entered targets) in
+    row_advanced A H image j (Enter t slots) (reply.Entered targets) t Inflight (entered targets i) tt owned.time absent
+    (advances_changed A H e t (entered targets) i Inflight is owned.action (next_of i.state Requested Inflight requested tt) refl refl (λ u. refl))
+    (start_of A H image t i e kept is)
+    (λ job owns. owned-entered (after_history A (e ∷ H)) t i slots targets are requested (owned_more A H (e ∷ H) t i (greatest_rises A H e) owned))
+    (λ group chain at holds. here_entered A H group (blocks_of_chain chain) t i targets is (owned.unplaced requested) requested holds) kept
+
+pub row_completed : (A : Table) (H : History) (image : FileMap) (j : Job) (t : ℕ) (checkpoint : Option ℕ) (i : Instant) → instant_of A H t ≡ Some i → i.owner ≡ Some j → i.failed ≡ false
+    → i.state ≡ Inflight → get image (timeline_name A t Delta Completed) ≡ None → Kept A image H
+    → Kept A (with_marked A image t Completed) (entry j (Finish t checkpoint) (reply.Completed t) ∷ H)
+unfolding OwnedInstants
+row_completed A H image j t checkpoint i is owner sound inflight absent kept =
+    let owned = kept.owned t i j is owner in
+    let e = entry j (Finish t checkpoint) (reply.Completed t) in
+    row_advanced A H image j (Finish t checkpoint) (reply.Completed t) t Completed (completed (completions A H) i) tt owned.time absent
+    (advances_changed A H e t (completed (completions A H)) i Completed is owned.action (next_of i.state Inflight Completed inflight tt) refl refl (λ u. refl))
+    (start_of A H image t i e kept is)
+    (λ job owns. absurd (none_some owns))
+    (λ group chain at holds. here_completed A H group (blocks_of_chain chain) t i is (inr ((j, owner), sound)) (λ v k at_v. kept.numbers.starts v k (at_after A H v ∙ at_v)) holds) kept

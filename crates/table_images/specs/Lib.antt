@@ -1,0 +1,12 @@
+pub mod Blocks
+pub mod Chains
+pub mod Frames
+pub mod Kept
+pub mod KnownFiles
+pub mod LogTexts
+pub mod Numbers
+pub mod Runs
+pub mod Stands
+pub mod StoreRuns
+pub mod Stops
+pub mod Timeline
