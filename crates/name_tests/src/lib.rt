@@ -1,7 +1,10 @@
-//! Tests of `file_names` and `key_index`: names of files both ways, slots and tilings, as tables.
+//! Tests of `file_names`, `key_index` and `instant_line`: names of files both ways, slots and tilings, and timelines, as
+//! tables.
 #![tactic(auto)]
 
 #[cfg(test)]
 mod names;
 #[cfg(test)]
 mod tilings;
+#[cfg(test)]
+mod timelines;

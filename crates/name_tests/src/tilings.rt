@@ -161,3 +161,31 @@ fn groups_without_slots_come_and_go(rt: HostRuntime) -> Result<(), Fail> {
     assert_eq!(rt; empty_left(rt.alloc())?, 1);
     Ok(())
 }
+
+// Groups of two slots each.
+fn pairs_of_slots(alloc: Global) -> Result<Vec<GroupRef>, AllocError> {
+    let mut groups = Vec::new(alloc);
+    for i in 0..32_768u32 {
+        push_group(alloc, ((i * 2) as u16, (i * 2 + 1) as u16), &mut groups)?;
+    }
+    Ok(groups)
+}
+
+// How many groups a tiling has once they gave way to pairs of slots, and once those gave way to one group.
+fn cut_and_joined(alloc: Global) -> Result<(usize, usize), Fail> {
+    let mut tiles = first_tiles(alloc, 2)?;
+    let halves = groups_of(alloc, &[HALF, (32768, 65535)])?;
+    let pairs = pairs_of_slots(alloc)?;
+    let whole = groups_of(alloc, &[(0, 65535)])?;
+    tiles.replace(alloc, &halves, &pairs)?;
+    let cut = tiles.groups().len();
+    tiles.replace(alloc, &pairs, &whole)?;
+    Ok((cut, tiles.groups().len()))
+}
+
+// In the square of the number of groups it wouldn't end in time.
+#[test]
+fn many_groups_give_way_at_once(rt: HostRuntime) -> Result<(), Fail> {
+    assert_eq!(rt; cut_and_joined(rt.alloc())?, (32_768, 1));
+    Ok(())
+}
