@@ -1,3 +1,4 @@
 pub mod GroupLists
 pub mod FirstGroups
 pub mod TileRunLemmas
+pub mod GroupOrder

@@ -53,10 +53,10 @@ first_tiling partition buckets = record { partition = partition; groups = first_
 -- ---- a tiling after old groups gave way to new ones
 
 abbrev pub is_same_group : GroupRef → GroupRef → Bool
-is_same_group g h = bytes_eq g.partition h.partition && g.lo == h.lo && g.hi == h.hi && g.born == h.born
+is_same_group g h = bytes_eq g.partition h.partition && (g.lo == h.lo && (g.hi == h.hi && g.born == h.born))
 
 abbrev pub is_among : List GroupRef → GroupRef → Bool
-is_among groups group = list_any (λ other. is_same_group other group) groups
+is_among groups group = list_any (λ other. is_same_group group other) groups
 
 -- the groups that aren't among the old ones
 abbrev pub without : List GroupRef → List GroupRef → List GroupRef

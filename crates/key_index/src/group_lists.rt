@@ -1,22 +1,42 @@
 // Lists of groups on the way to a tiling.
-ghost use Rattle.std.specs.Prelude.{◌≡◌, ◌++◌, ◌∷◌, [], ◌<◌, OnOk, IfSome, not, filter};
+ghost use Rattle.std.specs.Prelude.{◌≡◌, ◌++◌, ◌∷◌, [], ◌<◌, ◌||◌, IfOk, OnOk, IfSome, not, filter};
+ghost use Rattle.hudi_base.specs.declared.file_group.GroupRef.{GroupRef};
 ghost use Rattle.key_index.specs.Slots.{slot_count};
 ghost use Rattle.key_index.specs.Tiling.{is_same_group, is_among, has_slots, without};
 ghost use Rattle.key_index.specs.TileRuns.{least_mistiled};
 
 use hudi_base::GroupRef;
 use std::alloc::{AllocError, Global};
+use std::collections::BTreeSet;
 
-fn is_same_group(g: &GroupRef, h: &GroupRef) -> bool
-    ensures { result ≡ is_same_group g.now h.now }
+fn insert_copy(
+    alloc: Global,
+    group: &GroupRef,
+    set: &mut BTreeSet<GroupRef>,
+) -> Result<(), AllocError>
+    ensures { OnOk result ((other : GroupRef)
+        → is_among set.new.keys other ≡ (is_same_group other group.now || is_among set.old.keys other)) }
 {
-    g.partition == h.partition && g.lo == h.lo && g.hi == h.hi && g.born == h.born
+    let copied = group.copy(alloc)?;
+    set.insert(copied)?;
+    Ok(())
 }
 
-fn is_among(groups: &[GroupRef], group: &GroupRef) -> bool
-    ensures { result ≡ is_among groups.now group.now }
+// The groups as a set.
+fn set_of(alloc: Global, groups: &[GroupRef]) -> Result<BTreeSet<GroupRef>, AllocError>
+    ensures { IfOk result (λ set. (group : GroupRef) → is_among set.keys group ≡ is_among groups.now group) }
 {
-    groups.iter().any(|other| is_same_group(other, group))
+    let mut set = BTreeSet::new(alloc);
+    for group in groups {
+        insert_copy(alloc, group, &mut set)?;
+    }
+    Ok(set)
+}
+
+fn is_among(groups: &BTreeSet<GroupRef>, group: &GroupRef) -> bool
+    ensures { result ≡ is_among groups.now.keys group.now }
+{
+    groups.contains(group)
 }
 
 fn has_slots(group: &GroupRef) -> bool
@@ -42,8 +62,9 @@ pub(crate) fn push_without(
 ) -> Result<(), AllocError>
     ensures { OnOk result (out.new.items ≡ out.old.items ++ without old.now groups.now) }
 {
+    let gone = set_of(alloc, old)?;
     for group in groups {
-        if !is_among(old, group) {
+        if !is_among(&gone, group) {
             push_copy(alloc, group, out)?;
         }
     }
