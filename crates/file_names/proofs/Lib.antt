@@ -1,3 +1,4 @@
 pub mod FileIdLemmas
+pub mod GroupIdLemmas
 pub mod IdTexts
 pub mod NameTexts

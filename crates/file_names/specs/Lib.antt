@@ -1,3 +1,4 @@
 pub mod Candidate
 pub mod FileId
 pub mod FileName
+pub mod GroupIds

@@ -72,7 +72,7 @@ fn born_of(text: &[u8]) -> Option<InstantTime>
 }
 
 #[tactic(auto, unfolding(crate::specs::Candidate::group_of))]
-fn group_of(partition: Name, id: &[u8]) -> Option<GroupRef>
+pub(crate) fn group_of(partition: Name, id: &[u8]) -> Option<GroupRef>
     ensures { result ≡ group_of partition id.now }
 {
     match born_of(bytes_from(37, id)) {

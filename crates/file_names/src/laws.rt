@@ -3,6 +3,7 @@ ghost use Rattle.std.specs.Prelude.{◌≡◌, ◌≢◌, ℕ, List, Option, Som
 ghost use Rattle.hudi_base.specs.declared.file_group.GroupRef.{GroupRef};
 ghost use Rattle.file_names.specs.FileId.{file_id};
 ghost use Rattle.file_names.specs.FileName.{name_of, kind_of, group_of_file, IsGroup, IsNamed, IsRead};
+ghost use Rattle.file_names.specs.GroupIds.{group_with_id, IsGroupWithId};
 ghost use Rattle.file_names.specs.declared.file_name.FileName.{FileName};
 
 /// Names and files determine each other. It does nothing: its clauses are the laws.
@@ -19,4 +20,8 @@ pub fn names_and_files_agree()
     // A file id tells the groups of one partition apart. Those of two partitions differ if the UUIDs do, which no law
     // says; their files' names differ all the same, since the partition stands before the id.
     ensures ids_apart { (table : List ℕ) (g h : GroupRef) → IsGroup g → IsGroup h → g.partition ≡ h.partition → file_id table g ≡ file_id table h → g ≡ h }
+
+    // What is found by a file id is the group of the partition that has it, and nothing where there is none.
+    ensures ids_found { (table partition id : List ℕ)
+        → IsGroupWithId table partition id (group_with_id table partition id) }
 {}

@@ -9,6 +9,7 @@ mod candidate;
 mod endings;
 mod file_ids;
 mod file_name;
+mod group_ids;
 mod laws;
 mod name_error;
 mod parsing;
@@ -16,6 +17,7 @@ mod writing;
 
 pub use file_ids::file_id;
 pub use file_name::{Action, FileName, State, Token};
+pub use group_ids::group_with_id;
 pub use laws::names_and_files_agree;
 pub use name_error::NameError;
 pub use parsing::parse_name;

@@ -1,5 +1,6 @@
 use Rattle.std.proofs.Common.{ap}
 use Rattle.file_names.specs.FileName.{kind_of, group_of_file}
+use Rattle.file_names.proofs.GroupIdLemmas.{group_with_id_exact}
 use Rattle.file_names.proofs.NameTexts as names
 use Rattle.file_names.proofs.laws.names_and_files_agree.Goals as goal
 
@@ -11,4 +12,5 @@ returns c = record {
   kinds_apart = λ table f g hf hg other same. other (ap kind_of (names.name_of_injective table f g hf hg same));
   groups_apart = λ table f g hf hg other same. other (ap group_of_file (names.name_of_injective table f g hf hg same));
   ids_apart = names.ids_apart;
+  ids_found = group_with_id_exact;
 }

@@ -1,0 +1,5 @@
+pub mod ListLemmas
+pub mod Objects
+pub mod PartsBack
+pub mod ReadBack
+pub mod Readable

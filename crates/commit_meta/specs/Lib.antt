@@ -1,0 +1,4 @@
+pub mod Members
+pub mod Metadata
+pub mod Parts
+pub mod Texts

@@ -1,0 +1,79 @@
+// Values that are read from JSON and written as JSON.
+ghost use Rattle.std.specs.Prelude.{◌≡◌, List, ℕ, Option, IfOk};
+ghost use Rattle.serde_json.specs.Data.{Data};
+ghost use Rattle.serde_json.specs.View.{view, items_view};
+ghost use Rattle.commit_meta.specs.Members.{at_member, all_of, list_in};
+ghost use Rattle.commit_meta.specs.Parts.{list_json};
+
+use hudi_base::{Name, Sequence};
+use serde_json::Value;
+use std::alloc::{AllocError, Global};
+
+// A value with a form in JSON, which the table's name may be a part of. The only error is want of memory.
+pub(crate) trait Form: Drop {
+    // What a JSON value is read as.
+    ghost reads: { List ℕ → Data → Option Self };
+
+    // What the value is written as.
+    ghost writes: { List ℕ → Self → Data };
+
+    fn read(alloc: Global, table: &Name, value: &Value) -> Result<Option<Self>, AllocError>
+        ensures { IfOk result (λ found. found ≡ reads table.now (view value.now)) };
+
+    fn to_json(&self, alloc: Global, table: &Name) -> Result<Value, AllocError>
+        ensures { IfOk result (λ value. view value ≡ writes table.now self.now) };
+}
+
+// The value of a member of an object.
+pub(crate) fn at_member<T: Form>(
+    alloc: Global,
+    table: &Name,
+    name: &str,
+    value: &Value,
+) -> Result<Option<T>, AllocError>
+    ensures { IfOk result (λ found. found ≡ at_member (T.reads table.now) name.now (view value.now)) }
+{
+    match value.get(name) {
+        Some(inner) => T::read(alloc, table, inner),
+        None => Ok(None),
+    }
+}
+
+fn all_of<T: Form>(
+    alloc: Global,
+    table: &Name,
+    values: &[Value],
+) -> Result<Option<Sequence<T>>, AllocError>
+    ensures { IfOk result (λ found. found ≡ all_of (T.reads table.now) (items_view values.now)) }
+{
+    let mut found = Sequence::new(alloc);
+    for value in values {
+        let Some(x) = T::read(alloc, table, value)? else {
+            return Ok(None);
+        };
+        found.push(x)?;
+    }
+    Ok(Some(found))
+}
+
+// An array of values.
+impl<T: Form> Form for Sequence<T> {
+    ghost reads = { λ table. list_in (T.reads table) };
+
+    ghost writes = { λ table. list_json (T.writes table) };
+
+    fn read(alloc: Global, table: &Name, value: &Value) -> Result<Option<Sequence<T>>, AllocError> {
+        match value.as_array() {
+            Some(values) => all_of(alloc, table, values),
+            None => Ok(None),
+        }
+    }
+
+    fn to_json(&self, alloc: Global, table: &Name) -> Result<Value, AllocError> {
+        let mut values = Vec::new(alloc);
+        for x in self.as_slice() {
+            values.push(x.to_json(alloc, table)?)?;
+        }
+        Ok(Value::Array(values))
+    }
+}
