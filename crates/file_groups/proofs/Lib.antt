@@ -1,0 +1,9 @@
+pub mod Determined
+pub mod FileLists
+pub mod FindLemmas
+pub mod NameLemmas
+pub mod Newest
+pub mod OneAnswer
+pub mod SlotLemmas
+pub mod SortLemmas
+pub mod ViewLemmas

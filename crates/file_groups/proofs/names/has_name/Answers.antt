@@ -1,0 +1,7 @@
+use Rattle.std.proofs.Common.{◌∙◌}
+use Rattle.file_groups.proofs.NameLemmas.{searched_names}
+use Rattle.file_groups.proofs.names.has_name.Goals as goal
+
+pub returns : goal.returns
+returns c =
+    c.is_ok.ensures.value ∙ searched_names c.args.names.now c.args.name.now c.binary_search.result c.requires c.binary_search.ensures.bound c.binary_search.ensures.position

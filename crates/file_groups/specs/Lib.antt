@@ -1,0 +1,5 @@
+pub mod Chains
+pub mod Names
+pub mod Orders
+pub mod Slots
+pub mod Views
