@@ -1,0 +1,4 @@
+pub mod Flat
+pub mod Keys
+pub mod PropsTexts
+pub mod LentEntries
