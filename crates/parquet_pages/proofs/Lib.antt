@@ -1,0 +1,11 @@
+pub mod BitsLemmas
+pub mod LevelsLemmas
+pub mod CellsLemmas
+pub mod PageLemmas
+pub mod SizeLemmas
+pub mod AgainLemmas
+pub mod PageAgainLemmas
+pub mod WholeAgainLemmas
+pub mod FormLemmas
+pub mod PageFormLemmas
+pub mod PageTookLemmas

@@ -1,0 +1,5 @@
+pub mod Levels
+pub mod Plain
+pub mod Pages
+pub mod Answers
+pub mod Forms
