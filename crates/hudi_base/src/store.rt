@@ -1,5 +1,5 @@
 // The store of files.
-ghost use Rattle.std.specs.Prelude.{◌≡◌, IfSome, length};
+ghost use Rattle.std.specs.Prelude.{◌≡◌, ◌↔◌, IfSome, length};
 ghost use Rattle.hudi_base.specs.Faults.{CountsFault};
 ghost use Rattle.hudi_base.specs.Files.{IsReplay};
 ghost use Rattle.hudi_base.specs.Store.{Appends, Creates, Fetches, Lists, Removes, StoreState};
@@ -70,39 +70,39 @@ pub trait Store {
     /// count of faults, up to the greatest `u64`.
     ghost state: { Self → StoreState };
 
-    /// Whether it is honest.
+    /// Whether it is honest. No call changes that.
     ghost is_honest: { Self → Type 0 };
 
     /// The files and their sizes, in the order of their names.
     fn list(&mut self, alloc: Global) -> Listed
         ensures answer { Lists (state self.old).told result }
         ensures same { (state self.new).told ≡ (state self.old).told }
-        ensures honest { is_honest self.old → is_honest self.new }
+        ensures honest { is_honest self.old ↔ is_honest self.new }
         ensures cause { CountsFault (state self.old).faults (state self.new).faults (result ≡ Listed.Failed) };
 
     /// The bytes of a file from the offset `at` on: `len` of them, or fewer where the file ends.
     fn read(&mut self, alloc: Global, name: &Name, at: u64, len: u64) -> Fetched
         ensures answer { Fetches (state self.old).told name.now at len result }
         ensures same { (state self.new).told ≡ (state self.old).told }
-        ensures honest { is_honest self.old → is_honest self.new }
+        ensures honest { is_honest self.old ↔ is_honest self.new }
         ensures cause { CountsFault (state self.old).faults (state self.new).faults (result ≡ Fetched.Failed) };
 
     /// Makes a file with these bytes, at once and whole.
     fn create(&mut self, alloc: Global, name: &Name, bytes: &[u8]) -> Made
         ensures answer { Creates (is_honest self.old) (state self.old).told (state self.new).told name.now bytes.now result }
-        ensures honest { is_honest self.old → is_honest self.new }
+        ensures honest { is_honest self.old ↔ is_honest self.new }
         ensures cause { CountsFault (state self.old).faults (state self.new).faults (result ≡ Made.Failed) };
 
     /// Adds bytes at the end of a file, and makes it where it is absent.
     fn append(&mut self, alloc: Global, name: &Name, bytes: &[u8]) -> Added
         ensures answer { Appends (is_honest self.old) (state self.old).told (state self.new).told name.now bytes.now result }
-        ensures honest { is_honest self.old → is_honest self.new }
+        ensures honest { is_honest self.old ↔ is_honest self.new }
         ensures cause { CountsFault (state self.old).faults (state self.new).faults (result ≡ Added.Failed) };
 
     /// Removes a file.
     fn remove(&mut self, alloc: Global, name: &Name) -> Gone
         ensures answer { Removes (is_honest self.old) (state self.old).told (state self.new).told name.now result }
-        ensures honest { is_honest self.old → is_honest self.new }
+        ensures honest { is_honest self.old ↔ is_honest self.new }
         ensures cause { CountsFault (state self.old).faults (state self.new).faults (result ≡ Gone.Failed) };
 
     /// How often it has failed. It takes no memory.

@@ -12,10 +12,10 @@ run_fresh-requires-clause-fresh g c = rw c.in-Files.ensures.same
 
 pub returns-then-is_empty : goal.returns-then-is_empty
 returns-then-is_empty g c =
-    let ran = Ran-earlier c.run_fresh.result c.args.script.now _ (g.S.Store.is_honest c.args.store.now) _ _ _ _ _ c.in-Files.ensures.honest c.in-Files.ensures.cause.never_falls c.run_fresh.ensures.ran in
+    let ran = Ran-earlier c.run_fresh.result c.args.script.now _ (g.S.Store.is_honest c.args.store.now) _ _ _ _ _ c.in-Files.ensures.honest.0 c.in-Files.ensures.cause.never_falls c.run_fresh.ensures.ran in
     let fresh = no_files (g.S.Store.state c.args.store.now).told.files c.in-Files.files c.in-Files.ensures.answer.1 (c.if-is_empty.ensures.0 refl) in
     let left = rw c.in-Files.ensures.same at c.run_fresh.ensures.leaves in
-    record { ran = rw c.in-Files.ensures.same at ran; leaves = λ is_honest. left (c.in-Files.ensures.honest is_honest); kept = inr fresh }
+    record { ran = rw c.in-Files.ensures.same at ran; leaves = λ is_honest. left (c.in-Files.ensures.honest.0 is_honest); kept = inr fresh }
 
 pub returns-in-Files : goal.returns-in-Files
 returns-in-Files g c = record {
