@@ -1,7 +1,7 @@
 // What many writes leave.
 use crate::rows::{SEQ, body_of, del, put};
 use hudi_base::InstantTime;
-use payload_merge::{MergeError, RowMap, RowRef, Rows, fold_puts};
+use payload_merge::{MergeError, RowMap, RowRef, Rows, WriteRef, fold_writes};
 use std::alloc::Global;
 use std::test::Fail;
 
@@ -63,8 +63,8 @@ fn folds_rows_in_the_order_of_their_keys(rt: HostRuntime) -> Result<(), Fail> {
     Ok(())
 }
 
-// Key, rank and body of rows as they are put.
-const LENT: [(&[u8], i64, &[u8]); 9] = [
+// Key, rank and body of writes. One without a body is a delete.
+const LENT: [(&[u8], i64, &[u8]); 16] = [
     (b"12345678b", 1, b"0"),
     (b"a\0", 1, b"1"),
     (b"12345678a", 1, b"2"),
@@ -74,30 +74,43 @@ const LENT: [(&[u8], i64, &[u8]); 9] = [
     (b"", i64::MAX, b"6"),
     (b"12345678a", 2, b"7"),
     (b"", i64::MIN, b"8"),
+    (b"d", 2, b"9"),
+    (b"d", 2, b""),
+    (b"e", 9, b""),
+    (b"e", 1, b"12"),
+    (b"f", 0, b""),
+    (b"a", 0, b""),
+    (b"", 0, b""),
 ];
 
 // The places of those that are left, in the order of their keys: none, two that begin with the same eight bytes, "a",
-// and "a" with a zero behind it.
-const PLACES_LEFT: [usize; 5] = [6, 7, 0, 5, 1];
+// "a" with a zero behind it, and "e", whose delete of a greater rank came first.
+const PLACES_LEFT: [usize; 6] = [6, 7, 0, 5, 1, 12];
 
-fn lent(alloc: Global) -> Result<Vec<RowRef<'static>>, MergeError> {
-    let mut puts = Vec::new(alloc);
+fn lent_write(key: &'static [u8], rank: i64, body: &'static [u8]) -> WriteRef<'static> {
+    if body.is_empty() {
+        return WriteRef::Del { key, rank };
+    }
+    WriteRef::Put(RowRef {
+        key,
+        rank,
+        commit: InstantTime::FIRST,
+        seq: SEQ,
+        body,
+    })
+}
+
+fn lent(alloc: Global) -> Result<Vec<WriteRef<'static>>, MergeError> {
+    let mut writes = Vec::new(alloc);
     for (key, rank, body) in LENT {
-        let row = RowRef {
-            key,
-            rank,
-            commit: InstantTime::FIRST,
-            seq: SEQ,
-            body,
-        };
-        if puts.push(row).is_err() {
+        if writes.push(lent_write(key, rank, body)).is_err() {
             return Err(MergeError::Memory);
         }
     }
-    Ok(puts)
+    Ok(writes)
 }
 
-// The place of a row among those that were put; one past the last for another row.
+// The place of a row among the writes; one past the last for another row.
 fn place_of(row: &RowRef<'_>) -> usize {
     for place in 0..LENT.len() {
         let (key, rank, body) = LENT[place];
@@ -109,8 +122,8 @@ fn place_of(row: &RowRef<'_>) -> usize {
 }
 
 fn places_left(alloc: Global) -> Result<Vec<usize>, MergeError> {
-    let puts = lent(alloc)?;
-    let rows = fold_puts(alloc, &puts)?;
+    let writes = lent(alloc)?;
+    let rows = fold_writes(alloc, &writes)?;
     let mut places = Vec::new(alloc);
     for row in &rows {
         places.push(place_of(row))?;
@@ -119,7 +132,7 @@ fn places_left(alloc: Global) -> Result<Vec<usize>, MergeError> {
 }
 
 #[test]
-fn folds_lent_rows(rt: HostRuntime) -> Result<(), Fail> {
+fn folds_lent_writes(rt: HostRuntime) -> Result<(), Fail> {
     assert_eq!(rt; places_left(rt.alloc())?.as_slice(), PLACES_LEFT.as_slice());
     Ok(())
 }

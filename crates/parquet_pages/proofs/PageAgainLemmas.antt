@@ -12,12 +12,13 @@ use Rattle.byte_fields.specs.Numbers.{number_at, signed_at}
 use Rattle.byte_fields.specs.Prefixed.{with_length, prefixed_at, text_at}
 use Rattle.byte_fields.proofs.NumberLemmas.{little4, little8, number_at_again}
 use Rattle.byte_fields.proofs.PrefixedLemmas.{prefixed_at_again, number_length, text_at_again}
+use Rattle.column_cells.specs.Cells.{is_cell, is_number}
 use Rattle.hudi_base.specs.declared.column.Column.{Column}
 use Rattle.hudi_base.specs.declared.value.Value.{Value}
 use Rattle.hudi_base.specs.declared.value.Value.TheVariants as value
-use Rattle.parquet_meta.specs.Reading.{is_number, with_value}
+use Rattle.parquet_meta.specs.Reading.{with_value}
 use Rattle.parquet_pages.specs.Plain.{value_bytes, array_at, value_at, cell_at, cells_at}
-use Rattle.parquet_pages.specs.Pages.{has_value, is_cell, IsTyped}
+use Rattle.parquet_pages.specs.Pages.{has_value, IsTyped}
 use Rattle.parquet_pages.specs.Forms.{IsShortValue}
 
 -- ---- values that aren't booleans

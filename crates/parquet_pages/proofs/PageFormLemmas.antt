@@ -10,10 +10,10 @@ use Rattle.std.proofs.lemmas.List.{append-nil, length-append, length-map}
 use Rattle.byte_fields.specs.Reading.{Reading, ◌>>=◌}
 use Rattle.byte_fields.specs.Prefixed.{bytes_at, nonnegative}
 use Rattle.byte_fields.proofs.PrefixedLemmas.{bytes_at_again}
+use Rattle.column_cells.specs.Cells.{is_number}
 use Rattle.hudi_base.specs.declared.column.Column.{Column}
 use Rattle.hudi_base.specs.declared.value.Value.{Value}
 use Rattle.parquet_meta.specs.declared.page_header.PageHeader.{PageHeader}
-use Rattle.parquet_meta.specs.Reading.{is_number}
 use Rattle.parquet_meta.specs.PageHeaders.{page_header_at}
 use Rattle.parquet_meta.proofs.GrammarLemmas.{page_header_known}
 use Rattle.parquet_pages.specs.Levels.{bits_of, levels_at}

@@ -23,18 +23,19 @@ use Rattle.byte_fields.proofs.ReadingLemmas.{IsBytes, IsBytes-take, IsBytes-drop
 use Rattle.byte_fields.proofs.NumberLemmas.{IsOrder, TakesNumber, little4, little8, number_at_reads}
 use Rattle.byte_fields.proofs.PrefixedLemmas.{TakesPrefixed, prefixed_at_reads, number_length_reads, bytes_at_reads}
 use Rattle.thrift_compact.proofs.GrammarLemmas.{if_Ok}
+use Rattle.column_cells.specs.Cells.{is_cell, is_number}
 use Rattle.hudi_base.specs.declared.column.Column.{Column}
 use Rattle.hudi_base.specs.declared.value.Value.{Value}
 use Rattle.hudi_base.specs.declared.value.Value.TheVariants as value
 use Rattle.parquet_meta.specs.declared.page_header.PageHeader.{PageHeader}
-use Rattle.parquet_meta.specs.Reading.{is_number, with_value}
+use Rattle.parquet_meta.specs.Reading.{with_value}
 use Rattle.parquet_meta.specs.PageHeaders.{page_header_at}
 use Rattle.parquet_meta.specs.Structs.{IsHeader}
 use Rattle.parquet_meta.proofs.GrammarLemmas.{page_header_known}
 use Rattle.parquet_pages.specs.declared.page_error.PageError.{PageError}
 use Rattle.parquet_pages.specs.Levels.{bits_of, levels_at}
 use Rattle.parquet_pages.specs.Plain.{value_bytes, bytes_for, truths_of, array_at, value_at, cell_at, cells_at, boolean_cells, booleans_at, values_at}
-use Rattle.parquet_pages.specs.Pages.{has_value, is_cell, IsTyped, body_at, whole, body_size, page_cells, strange_encoding, cells_or, behind_header, page_behind, page_at}
+use Rattle.parquet_pages.specs.Pages.{has_value, IsTyped, body_at, whole, body_size, page_cells, strange_encoding, cells_or, behind_header, page_behind, page_at}
 use Rattle.parquet_pages.specs.Forms.{IsShortValue, AreCells, AreBits, AreValues, AreNullable, IsBody, IsPage, IsLevels}
 use Rattle.parquet_pages.proofs.CellsLemmas.{length-bits_of}
 use Rattle.parquet_pages.proofs.FormLemmas.{levels_took}

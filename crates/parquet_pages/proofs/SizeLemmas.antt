@@ -9,12 +9,12 @@ use Rattle.byte_fields.specs.Varints.{varint, zigzag}
 use Rattle.byte_fields.specs.Prefixed.{with_length}
 use Rattle.byte_fields.proofs.NumberLemmas.{little4}
 use Rattle.byte_fields.proofs.VarintLemmas.{length-varint}
+use Rattle.column_cells.specs.Cells.{is_number}
 use Rattle.hudi_base.specs.declared.column.Column.{Column}
 use Rattle.hudi_base.specs.declared.value.Value.{Value}
 use Rattle.hudi_base.specs.declared.value.Value.TheVariants as value
 use Rattle.parquet_meta.specs.declared.page_header.PageHeader.{PageHeader}
 use Rattle.parquet_meta.specs.Written.{number_bytes, page_header_bytes}
-use Rattle.parquet_meta.specs.Reading.{is_number}
 use Rattle.parquet_pages.specs.Levels.{run_bytes, join, runs_of, levels_body, levels_bytes}
 use Rattle.parquet_pages.specs.Plain.{value_bytes, bit_bytes, bytes_for, truths_of, values_bytes}
 use Rattle.parquet_pages.specs.Pages.{has_value, body_bytes, header_of, page_bytes}

@@ -11,18 +11,18 @@ use Rattle.std.proofs.lemmas.List.{append-nil, length-append, length-take, lengt
 use Rattle.byte_fields.specs.Reading.{Reading, ◌>>=◌}
 use Rattle.byte_fields.specs.Prefixed.{bytes_at}
 use Rattle.byte_fields.proofs.PrefixedLemmas.{bytes_at_again}
+use Rattle.column_cells.specs.Cells.{is_cell, is_number}
 use Rattle.hudi_base.specs.declared.column.Column.{Column}
 use Rattle.hudi_base.specs.declared.value.Value.{Value}
 use Rattle.hudi_base.specs.declared.value.Value.TheVariants as value
 use Rattle.parquet_meta.specs.declared.page_header.PageHeader.{PageHeader}
-use Rattle.parquet_meta.specs.Reading.{is_number}
 use Rattle.parquet_meta.specs.PageHeaders.{page_header_at}
 use Rattle.parquet_meta.specs.Written.{page_header_bytes}
 use Rattle.parquet_meta.specs.ReadBack.{IsTypedHeader}
 use Rattle.parquet_meta.proofs.HeaderLemmas.{page_header_again}
 use Rattle.parquet_pages.specs.Levels.{level_byte, byte_bits, bits_of, levels_bytes, levels_at}
 use Rattle.parquet_pages.specs.Plain.{value_bytes, bits_number, bit_bytes, bytes_for, truths_of, values_bytes, cells_at, boolean_cells, booleans_at, values_at}
-use Rattle.parquet_pages.specs.Pages.{has_value, is_cell, IsTyped, body_bytes, header_of, page_bytes, FitsPage, body_at, whole, body_size, page_cells, strange_encoding, cells_or, behind_header, page_behind, page_at}
+use Rattle.parquet_pages.specs.Pages.{has_value, IsTyped, body_bytes, header_of, page_bytes, FitsPage, body_at, whole, body_size, page_cells, strange_encoding, cells_or, behind_header, page_behind, page_at}
 use Rattle.parquet_pages.proofs.BitsLemmas.{take_all}
 use Rattle.parquet_pages.proofs.SizeLemmas.{length-bit_bytes}
 use Rattle.parquet_pages.proofs.PageLemmas.{levels_le}

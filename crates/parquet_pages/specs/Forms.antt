@@ -4,15 +4,15 @@ use Rattle.std.specs.List.{flat_map, list_all, AllByRecursion}
 use Rattle.byteorder.specs.Endian.{little_bytes}
 use Rattle.byte_fields.specs.Prefixed.{with_length}
 use Rattle.thrift_compact.specs.Grammar.{IsSize}
+use Rattle.column_cells.specs.Cells.{is_cell, is_number}
 use Rattle.hudi_base.specs.declared.column.Column.{Column}
 use Rattle.hudi_base.specs.declared.value.Value.{Value}
 use Rattle.hudi_base.specs.declared.value.Value.TheVariants as value
 use Rattle.parquet_meta.specs.declared.page_header.PageHeader.{PageHeader}
-use Rattle.parquet_meta.specs.Reading.{is_number}
 use Rattle.parquet_meta.specs.Structs.{AreItems, IsHeader}
 use Rattle.parquet_pages.specs.Levels.{bits_of}
 use Rattle.parquet_pages.specs.Plain.{value_bytes, bytes_for, truths_of}
-use Rattle.parquet_pages.specs.Pages.{has_value, is_cell, IsTyped}
+use Rattle.parquet_pages.specs.Pages.{has_value, IsTyped}
 
 -- a header that is twice a length, and a level that is repeated so often
 abbrev pub IsRepeated : List Bool → List ℕ → Type 0

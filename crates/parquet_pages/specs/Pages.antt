@@ -6,11 +6,11 @@ use Rattle.std.specs.Int.{w32, w64}
 use Rattle.std.specs.Ordering.{int_eq}
 use Rattle.byte_fields.specs.Reading.{Reading, ◌>>=◌}
 use Rattle.byte_fields.specs.Prefixed.{nonnegative}
+use Rattle.column_cells.specs.Cells.{is_cell, is_number}
 use Rattle.hudi_base.specs.declared.column.Column.{Column}
 use Rattle.hudi_base.specs.declared.value.Value.{Value}
 use Rattle.hudi_base.specs.declared.value.Value.TheVariants as value
 use Rattle.parquet_meta.specs.declared.page_header.PageHeader.{PageHeader}
-use Rattle.parquet_meta.specs.Reading.{is_number}
 use Rattle.parquet_meta.specs.PageHeaders.{page_header_at}
 use Rattle.parquet_meta.specs.Written.{page_header_bytes}
 use Rattle.parquet_pages.specs.declared.page_error.PageError.{PageError}
@@ -44,16 +44,6 @@ header_of size count = record {
 abbrev pub page_bytes : Column → List Value → List ℕ
 page_bytes column cells =
     page_header_bytes (header_of (length (body_bytes column cells)) (length cells)) ++ body_bytes column cells
-
--- a cell of the column, by the column's physical type
-abbrev pub is_cell : Column → Value → Bool
-is_cell column value.Null = column.optional
-is_cell column (value.Boolean truth) = is_number 0 column.physical
-is_cell column (value.Int n) = is_number 1 column.physical
-is_cell column (value.Long n) = is_number 2 column.physical
-is_cell column (value.Bytes content) = is_number 6 column.physical && not column.utf8
-is_cell column (value.Text text) = is_number 6 column.physical && column.utf8
-is_cell column _ = false
 
 -- In a law the numbers of cells have to be said to be of their types, and texts to be UTF-8, as the types of the code say.
 abbrev pub IsTyped : Value → Type 0

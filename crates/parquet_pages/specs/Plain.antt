@@ -7,10 +7,11 @@ use Rattle.byte_fields.specs.declared.field_error.FieldError.TheVariants.{Bad}
 use Rattle.byte_fields.specs.Reading.{Reading, ◌>>=◌}
 use Rattle.byte_fields.specs.Numbers.{number_at, signed_at}
 use Rattle.byte_fields.specs.Prefixed.{with_length, bytes_at, prefixed_at, text_at}
+use Rattle.column_cells.specs.Cells.{is_number}
 use Rattle.hudi_base.specs.declared.column.Column.{Column}
 use Rattle.hudi_base.specs.declared.value.Value.{Value}
 use Rattle.hudi_base.specs.declared.value.Value.TheVariants as value
-use Rattle.parquet_meta.specs.Reading.{is_number, with_value}
+use Rattle.parquet_meta.specs.Reading.{with_value}
 use Rattle.parquet_pages.specs.Levels.{level_byte, bits_of}
 
 -- ---- written

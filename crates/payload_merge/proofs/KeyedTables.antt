@@ -25,7 +25,7 @@ pub IsKeyed-empty : IsKeyed empty
 IsKeyed-empty key row h = absurd (none_some (sym (get-nothing key) ∙ h))
 
 -- what the payload rule leaves is the present row or has the write's key
-applied_keyed : (present : Option Row) (w : Write) (row : Row) → ((r : Row) → present ≡ Some r → key_of_row r ≡ key_of w) → row_after present w ≡ Some row → key_of_row row ≡ key_of w
+pub applied_keyed : (present : Option Row) (w : Write) (row : Row) → ((r : Row) → present ≡ Some r → key_of_row r ≡ key_of w) → row_after present w ≡ Some row → key_of_row row ≡ key_of w
 applied_keyed None (Put r) row keyed h = let e : r ≡ row = cc in ap key_of_row (sym e)
 applied_keyed None (Del partition key rank) row keyed h = absurd (none_some h)
 applied_keyed (Some r) w row keyed h = by_test (int_lt (rank_of w) r.rank) w h (keyed r refl)

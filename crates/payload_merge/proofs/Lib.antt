@@ -5,9 +5,9 @@ mod KeyPrefixes
 pub mod KeyedTables
 pub mod Keys
 pub mod PayloadRule
-mod PrefixedRows
-mod PutsInOrder
+mod PrefixedWrites
 mod RowsByKey
 pub mod Summaries
 pub mod Tables
 pub mod TimeOrders
+mod WritesInOrder

@@ -4,6 +4,7 @@
 use Rattle.std.specs.Prelude.{◌≡◌, ℕ, List, [], ◌∷◌, ◌++◌, Option, Some, None, Result, Ok, Err, All, map}
 use Rattle.std.specs.Option.{option_and_then, option_map}
 use Rattle.std.specs.FinMap.{empty}
+use Rattle.hudi_base.specs.declared.value.Value.{Value}
 use Rattle.payload_merge.specs.declared.row.Row.{Row}
 use Rattle.payload_merge.specs.declared.row.Write.{Write}
 use Rattle.payload_merge.specs.declared.row.Write.TheVariants.{Put}
@@ -26,6 +27,10 @@ DeleteReading = List ℕ → List ℕ → Result (List Write) ℕ
 -- the rows of a base file of a partition, or none where the bytes are no base file
 abbrev pub BaseReading : Type 0
 BaseReading = List ℕ → List ℕ → Option (List Row)
+
+-- the row of a partition for which the cells of a base file stand, or the place of the first bad cell, from 0
+abbrev pub CellsReading : Type 0
+CellsReading = List ℕ → List Value → Result Row ℕ
 
 -- the rows carry the instant and lie in the partition
 abbrev pub AreRowsOf : ℕ → List ℕ → List Row → Type 0

@@ -1,13 +1,8 @@
-// Borrowed rows, and the fold of many of them at once.
-ghost use Rattle.std.specs.Prelude.{◌≡◌, map, IfOk};
-ghost use Rattle.payload_merge.specs.RowRefs.{LeaveRows};
-ghost use Rattle.payload_merge.specs.KeyOrder.{KeysRise, row_of};
+// Borrowed rows and writes.
+ghost use Rattle.std.specs.Prelude.{◌≡◌};
+ghost use Rattle.payload_merge.specs.RowRefs.{key_of_ref, rank_of_ref};
 
-use crate::merge_error::MergeError;
-use crate::payload::outranks;
-use crate::prefixed_rows::{PrefixedRow, in_order};
 use hudi_base::InstantTime;
-use std::alloc::Global;
 
 /// A row whose key and body lie elsewhere, as in a block that was read. It doesn't say in which partition it lies:
 /// rows that are folded together lie in one.
@@ -25,54 +20,33 @@ pub struct RowRef<'a> {
     pub body: &'a [u8],
 }
 
-/// The rows that puts of these leave, the first first, where there was none. They come in the order of their keys.
-/// The only error is want of memory.
-pub fn fold_puts<'a>(alloc: Global, puts: &'a [RowRef<'a>]) -> Result<Vec<RowRef<'a>>, MergeError>
-    ensures { IfOk result (λ rows. LeaveRows puts.now rows.items) }
-{
-    let ordered = in_order(alloc, puts)?;
-    fold_in_order(alloc, &ordered)
+/// One write to one key, whose bytes lie elsewhere.
+#[derive(Clone, Copy)]
+pub enum WriteRef<'a> {
+    /// A row that is inserted, or that replaces the present one.
+    Put(RowRef<'a>),
+    /// The row of a key is taken out.
+    Del { key: &'a [u8], rank: i64 },
 }
 
-// Of the rows of each key the last of those of the greatest rank.
-fn fold_in_order<'a>(
-    alloc: Global,
-    ordered: &[PrefixedRow<'a>],
-) -> Result<Vec<RowRef<'a>>, MergeError>
-    requires { KeysRise (map row_of ordered.now) }
-    ensures { IfOk result (λ rows. LeaveRows (map row_of ordered.now) rows.items) }
-{
-    let mut rows = Vec::new(alloc);
-    let Some((first, later)) = ordered.split_first() else {
-        return Ok(rows);
-    };
-    let mut last = first.row;
-    for prefixed in later {
-        let put = prefixed.row;
-        if last.key != put.key {
-            if rows.push(copy_of(last)).is_err() {
-                return Err(MergeError::Memory);
-            }
-        } else if outranks(last.rank, put.rank) {
-            continue;
+impl<'a> WriteRef<'a> {
+    // The key that it is about.
+    pub(crate) fn key(&self) -> &'a [u8]
+        ensures { result.now ≡ key_of_ref self.now }
+    {
+        match self {
+            WriteRef::Put(row) => row.key,
+            WriteRef::Del { key, .. } => key,
         }
-        last = put;
     }
-    if rows.push(copy_of(last)).is_err() {
-        return Err(MergeError::Memory);
-    }
-    Ok(rows)
-}
 
-// The same row, field by field.
-fn copy_of<'a>(row: &RowRef<'a>) -> RowRef<'a>
-    ensures { result ≡ row.now }
-{
-    RowRef {
-        key: row.key,
-        rank: row.rank,
-        commit: row.commit,
-        seq: row.seq,
-        body: row.body,
+    // Its rank.
+    pub(crate) fn rank(&self) -> i64
+        ensures { result ≡ rank_of_ref self.now }
+    {
+        match self {
+            WriteRef::Put(row) => row.rank,
+            WriteRef::Del { rank, .. } => *rank,
+        }
     }
 }

@@ -12,7 +12,8 @@ use Rattle.payload_merge.specs.declared.row.Row.{Row}
 use Rattle.payload_merge.specs.declared.row.Write.{Write}
 use Rattle.payload_merge.specs.declared.row.Write.TheVariants.{Put, Del}
 use Rattle.payload_merge.specs.declared.row_refs.RowRef.{RowRef}
-use Rattle.payload_merge.specs.RowRefs.{put_in}
+use Rattle.payload_merge.specs.declared.row_refs.WriteRef.{WriteRef}
+use Rattle.payload_merge.specs.RowRefs.{write_in}
 use Rattle.payload_merge.specs.Payload.{Key, key_cmp, key_of, winner}
 use Rattle.hudi_base.specs.Files.{Told}
 use Rattle.hudi_base.specs.Store.{StoreState, Has}
@@ -155,22 +156,22 @@ of_more blocks i block table next rows lt at all so_far held are_rows is =
     with_content instant content = record { instant = instant; content = content }
 
 -- the puts of one more block, as the code adds them
-pub puts_more : (is_ok is_err : Bool) (puts more now : List RowRef) (writes : List Write) → now ≡ (if is_ok then puts ++ more else puts) → is_ok ≡ not is_err → is_err ≡ false → map (put_in partition) more ≡ writes
-    → table_after_all empty (map (put_in partition) now) ≡ table_after_all (table_after_all empty (map (put_in partition) puts)) writes
+pub puts_more : (is_ok is_err : Bool) (puts more now : List WriteRef) (writes : List Write) → now ≡ (if is_ok then puts ++ more else puts) → is_ok ≡ not is_err → is_err ≡ false → map (write_in partition) more ≡ writes
+    → table_after_all empty (map (write_in partition) now) ≡ table_after_all (table_after_all empty (map (write_in partition) puts)) writes
 puts_more is_ok is_err puts more now writes added means fine are =
     let whole : now ≡ puts ++ more = added ∙ ap (λ (b : Bool). if b then puts ++ more else puts) (means ∙ ap not fine) in
-    ap (λ (all : List RowRef). table_after_all empty (map (put_in partition) all)) whole
-    ∙ ap (table_after_all empty) (map-append (put_in partition) puts more ∙ ap (λ (last : List Write). map (put_in partition) puts ++ last) are)
-    ∙ table_after_all-append empty (map (put_in partition) puts) writes
+    ap (λ (all : List WriteRef). table_after_all empty (map (write_in partition) all)) whole
+    ∙ ap (table_after_all empty) (map-append (write_in partition) puts more ∙ ap (λ (last : List Write). map (write_in partition) puts ++ last) are)
+    ∙ table_after_all-append empty (map (write_in partition) puts) writes
 
 -- all of them
-pub of_all : {V : Type 0} (view : V → List RowRef) (blocks : List LogBlock) (i : ℕ) (puts : V) → length blocks ≤ i → AreOf (take i blocks) (table_after_all empty (map (put_in partition) (view puts))) → HoldPuts view (Ok puts) blocks
+pub of_all : {V : Type 0} (view : V → List WriteRef) (blocks : List LogBlock) (i : ℕ) (puts : V) → length blocks ≤ i → AreOf (take i blocks) (table_after_all empty (map (write_in partition) (view puts))) → HoldPuts view (Ok puts) blocks
 of_all view blocks i puts le so_far = (
   so_far.commits,
   record {
     blocks_are = subst (λ (front : List LogBlock). AreBlocksOf front so_far.commits) (take_all i blocks le) so_far.blocks_are;
     table = so_far.table_is;
-    printable = subst (λ (table : RowTable). AllByRecursion IsPrintable (rows_of table)) so_far.table_is (rows_printable (table_after_all empty (map (put_in partition) (view puts))) so_far.printable);
+    printable = subst (λ (table : RowTable). AllByRecursion IsPrintable (rows_of table)) so_far.table_is (rows_printable (table_after_all empty (map (write_in partition) (view puts))) so_far.printable);
   },
 )
 
@@ -224,13 +225,13 @@ latest_is time [] = refl
 latest_is time (commit ∷ commits) = latest_is (Some (later time commit.instant)) commits
 
 -- what is printed of puts is printed of their blocks
-pub prints_puts : (verdict : Verdict) (script : Script) (outcomes : List Outcome) (blocks : List LogBlock) (commits : List Commit) (puts : List RowRef) (time : Option ℕ) → ArePutsOf blocks commits puts → time ≡ latest_block None blocks
-    → PrintsText verdict (output_text script outcomes time (rows_of (table_after_all empty (map (put_in partition) puts)))) → PrintsBlocks verdict script outcomes blocks
+pub prints_puts : (verdict : Verdict) (script : Script) (outcomes : List Outcome) (blocks : List LogBlock) (commits : List Commit) (puts : List WriteRef) (time : Option ℕ) → ArePutsOf blocks commits puts → time ≡ latest_block None blocks
+    → PrintsText verdict (output_text script outcomes time (rows_of (table_after_all empty (map (write_in partition) puts)))) → PrintsBlocks verdict script outcomes blocks
 prints_puts verdict script outcomes blocks commits puts time are time_is (inl done) =
     rw done (
       commits,
       are.blocks_are,
-      ap (λ (time : Option ℕ). output_text script outcomes time (rows_of (table_after_all empty (map (put_in partition) puts)))) (time_is ∙ ap (latest_block None) are.blocks_are.same ∙ latest_is None commits)
+      ap (λ (time : Option ℕ). output_text script outcomes time (rows_of (table_after_all empty (map (write_in partition) puts)))) (time_is ∙ ap (latest_block None) are.blocks_are.same ∙ latest_is None commits)
           ∙ ap (λ (table : RowTable). output_text script outcomes (latest_from None commits) (rows_of table)) are.table,
     )
 prints_puts verdict script outcomes blocks commits puts time are time_is (inr wanting) = rw wanting tt

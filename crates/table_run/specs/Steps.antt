@@ -2,8 +2,8 @@
 use Rattle.std.specs.Prelude.{◌≡◌, ◌≢◌, ◌⊎◌, ℕ, ℤ, pos, ◌≤ℤ◌, Option, IfSome, Bool, true, false, List, [], ◌∷◌, map, flat_map, None, Some, Result, Ok, Err}
 use Rattle.std.specs.FinMap.{empty}
 use Rattle.payload_merge.specs.Fold.{RowTable, table_after_all, rows_of, writes_of}
-use Rattle.payload_merge.specs.RowRefs.{put_in}
-use Rattle.payload_merge.specs.declared.row_refs.RowRef.{RowRef}
+use Rattle.payload_merge.specs.RowRefs.{write_in}
+use Rattle.payload_merge.specs.declared.row_refs.WriteRef.{WriteRef}
 use Rattle.table_run.specs.Output.{IsPrintable, output_text}
 use Rattle.table_run.specs.Verdict.{Ends}
 use Rattle.std.specs.List.{AllByRecursion}
@@ -101,9 +101,9 @@ pub record AreBlocksOf (blocks : List LogBlock) (commits : List Commit) : Type 0
   pub same : blocks ≡ map log_block_of commits
 
 -- puts that make the table of the commits whose blocks these are
-pub record ArePutsOf (blocks : List LogBlock) (commits : List Commit) (puts : List RowRef) : Type 0 where
+pub record ArePutsOf (blocks : List LogBlock) (commits : List Commit) (puts : List WriteRef) : Type 0 where
   pub blocks_are : AreBlocksOf blocks commits
-  pub table : table_after_all empty (map (put_in partition) puts) ≡ table_of commits
+  pub table : table_after_all empty (map (write_in partition) puts) ≡ table_of commits
   pub printable : AllByRecursion IsPrintable (rows_of (table_of commits))
 
 -- the blocks are those of no commits, unless memory ran out
@@ -112,7 +112,7 @@ HoldNone content_error.Bad blocks = (commits : List Commit) → ¬ AreBlocksOf b
 HoldNone content_error.Memory blocks = Unit {0}
 
 -- what reading the rows of blocks came to: puts, or the blocks are those of no commits
-abbrev pub HoldPuts : {V : Type 0} → (V → List RowRef) → Result V ContentError → List LogBlock → Type 0
+abbrev pub HoldPuts : {V : Type 0} → (V → List WriteRef) → Result V ContentError → List LogBlock → Type 0
 HoldPuts view (Ok puts) blocks = (commits : List Commit) × ArePutsOf blocks commits (view puts)
 HoldPuts view (Err error) blocks = HoldNone error blocks
 

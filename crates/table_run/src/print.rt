@@ -3,7 +3,7 @@ ghost use Rattle.std.specs.Prelude.{◌≡◌, ◌≤◌, All, map};
 ghost use Rattle.std.specs.List.{AllByRecursion};
 ghost use Rattle.std.specs.FinMap.{empty};
 ghost use Rattle.payload_merge.specs.Fold.{table_after_all, rows_of};
-ghost use Rattle.payload_merge.specs.RowRefs.{put_in};
+ghost use Rattle.payload_merge.specs.RowRefs.{write_in};
 ghost use Rattle.table_run.specs.Content.{IsLogBlock, log_name, partition};
 ghost use Rattle.table_run.specs.Output.{IsPrintable, output_text, row_shown};
 ghost use Rattle.table_run.specs.Steps.{Prints, PrintsBlocks, PrintsText};
@@ -16,7 +16,7 @@ use crate::snapshot::{Found, any_committed, latest, puts_of_blocks, read_back};
 use crate::text::output_text;
 use crate::verdict::Verdict;
 use hudi_base::{InstantTime, Name, Store};
-use payload_merge::{MergeError, RowRef, fold_puts};
+use payload_merge::{MergeError, RowRef, WriteRef, fold_writes};
 use std::alloc::Global;
 
 /// Prints the outcomes, and the snapshot of the log. Where no upsert drew a time, no log is read.
@@ -66,12 +66,12 @@ fn print_puts<'a>(
     script: &Script,
     outcomes: &[Outcome],
     time: Option<InstantTime>,
-    puts: &'a [RowRef<'a>],
+    puts: &'a [WriteRef<'a>],
 ) -> Verdict
-    requires { AllByRecursion IsPrintable (rows_of (table_after_all empty (map (put_in partition) puts.now))) }
-    ensures { PrintsText result (output_text script.now outcomes.now time (rows_of (table_after_all empty (map (put_in partition) puts.now)))) }
+    requires { AllByRecursion IsPrintable (rows_of (table_after_all empty (map (write_in partition) puts.now))) }
+    ensures { PrintsText result (output_text script.now outcomes.now time (rows_of (table_after_all empty (map (write_in partition) puts.now)))) }
 {
-    match fold_puts(alloc, puts) {
+    match fold_writes(alloc, puts) {
         Ok(rows) => print_rows(alloc, script, outcomes, time, &rows),
         Err(MergeError::Memory) => Verdict::OutOfMemory,
     }

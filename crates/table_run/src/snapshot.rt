@@ -2,7 +2,7 @@
 ghost use Rattle.std.specs.Prelude.{◌≡◌, ◌≤◌, ◌<◌, ◌^◌, length, map, None, IfOk};
 ghost use Rattle.std.specs.List.{AllByRecursion};
 ghost use Rattle.payload_merge.specs.Fold.{writes_of};
-ghost use Rattle.payload_merge.specs.RowRefs.{put_in};
+ghost use Rattle.payload_merge.specs.RowRefs.{write_in};
 ghost use Rattle.table_run.specs.Content.{IsLogBlock, input_row, log_name, partition};
 ghost use Rattle.table_run.specs.Run.{batch_of, later};
 ghost use Rattle.table_run.specs.Steps.{HoldPuts, ReadsBack, any_committed, latest_block};
@@ -11,7 +11,7 @@ use crate::commit::Outcome;
 use crate::content::{ContentError, ContentRow, rows_of_content};
 use crate::log::{LogBlock, LogRead, read_log};
 use hudi_base::{Fetched, InstantTime, Name, Sequence, Store};
-use payload_merge::RowRef;
+use payload_merge::{RowRef, WriteRef};
 use std::alloc::Global;
 
 /// What reading the log back came to.
@@ -80,7 +80,7 @@ fn later(time: Option<InstantTime>, other: InstantTime) -> InstantTime
 pub(crate) fn puts_of_blocks<'a>(
     alloc: Global,
     blocks: &'a [LogBlock],
-) -> Result<Vec<RowRef<'a>>, ContentError>
+) -> Result<Vec<WriteRef<'a>>, ContentError>
     requires { AllByRecursion IsLogBlock blocks.now }
     ensures { HoldPuts (λ puts. puts.items) result blocks.now }
 {
@@ -102,20 +102,20 @@ fn puts_of_commit<'a>(
     alloc: Global,
     instant: InstantTime,
     rows: &[ContentRow<'a>],
-) -> Result<Vec<RowRef<'a>>, ContentError>
+) -> Result<Vec<WriteRef<'a>>, ContentError>
     requires { length rows.now < 2 ^ 32 }
-    ensures { IfOk result (λ puts. map (put_in partition) puts.items ≡ writes_of (batch_of (record { instant = instant; rows = map input_row rows.now }))) }
+    ensures { IfOk result (λ puts. map (write_in partition) puts.items ≡ writes_of (batch_of (record { instant = instant; rows = map input_row rows.now }))) }
 {
     let mut puts = Vec::new(alloc);
     let mut seq: u32 = 0;
     for row in rows {
-        let put = RowRef {
+        let put = WriteRef::Put(RowRef {
             key: row.key.as_bytes(),
             rank: row.rank,
             commit: instant,
             seq,
             body: row.body.as_bytes(),
-        };
+        });
         if puts.push(put).is_err() {
             return Err(ContentError::Memory);
         }

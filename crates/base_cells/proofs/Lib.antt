@@ -1,0 +1,5 @@
+pub mod HeaderLemmas
+pub mod TurnedLemmas
+pub mod PageLemmas
+pub mod CountLemmas
+pub mod ChunkLemmas
