@@ -4,3 +4,4 @@ pub mod Files
 pub mod MemClock
 pub mod MemStore
 pub mod MemStreams
+pub mod Stopped

@@ -1,9 +1,11 @@
 // The files of a store, those that it was given and the operations done since.
-ghost use Rattle.std.specs.Prelude.{◌≡◌, ◌∷◌, ◌++◌, [], ◌<◌, vec_len, vec_capacity, is_some, IfOk, OnOk, OnErr, MatchOption, None, Some};
+ghost use Rattle.std.specs.Prelude.{◌≡◌, ◌∷◌, ◌++◌, [], ◌<◌, ◌≤◌, length, vec_len, vec_capacity, is_some, IfOk, OnOk, OnErr, MatchOption, None, Some};
 ghost use Rattle.std.specs.FinMap.{get, len};
 ghost use Rattle.hudi_base.specs.Files.{sizes};
 ghost use Rattle.store_mem.specs.Files.{after_operations, files_made, no_operations};
+ghost use Rattle.store_mem.specs.Stopped.{begun, stopped};
 
+use crate::content::prefix;
 use crate::files::{Files, change, given_files, sizes_of};
 use hudi_base::{Bytes, FileSizes, Name, Operation, Sequence};
 use std::alloc::{AllocError, Global};
@@ -92,6 +94,61 @@ impl History {
         Ok(())
     }
 
+    // Does an operation again.
+    fn redo(&mut self, alloc: Global, operation: &Operation) -> Result<(), AllocError>
+        ensures ok { OnOk result (self.new ≡ after_operations self.old (operation.now ∷ [])) }
+        ensures err { OnErr result (self.new ≡ self.old) }
+    {
+        match operation {
+            Operation::Create(name, bytes) => self.create(alloc, name, bytes.as_slice()),
+            Operation::Append(name, bytes) => self.append(alloc, name, bytes.as_slice()),
+            Operation::Remove(name) => self.remove(alloc, name),
+        }
+    }
+
+    // Does these operations again.
+    fn redo_all(&mut self, alloc: Global, operations: &[Operation]) -> Result<(), AllocError>
+        ensures { OnOk result (self.new ≡ after_operations self.old operations.now) }
+    {
+        for operation in operations {
+            self.redo(alloc, operation)?;
+        }
+        Ok(())
+    }
+
+    // With so much of an operation as is done when a stop comes within it.
+    fn with_begun(
+        mut self,
+        alloc: Global,
+        next: &Operation,
+        most: u64,
+    ) -> Result<History, AllocError>
+        ensures { IfOk result (λ left. left ≡ after_operations self (begun most next.now)) }
+    {
+        let Operation::Append(name, bytes) = next else {
+            return Ok(self);
+        };
+        let left = prefix(bytes.as_slice(), most);
+        if !left.is_empty() {
+            self.append(alloc, name, left)?;
+        }
+        Ok(self)
+    }
+
+    /// What a stop leaves after the first `done` operations and within the next one, of which the first `most` bytes
+    /// have arrived where it is an append.
+    pub fn stopped(&self, alloc: Global, done: usize, most: u64) -> Result<History, AllocError>
+        requires { done ≤ length self.now.operations }
+        ensures { IfOk result (λ left. left ≡ stopped self.now done most) }
+    {
+        let mut left = History::with_files(alloc, copied(alloc, self.given.as_slice())?)?;
+        left.redo_all(alloc, &self.operations[..done])?;
+        match self.operations.get(done) {
+            Some(next) => left.with_begun(alloc, next, most),
+            None => Ok(left),
+        }
+    }
+
     /// The bytes of a file.
     pub fn file(&self, name: &Name) -> Option<&[u8]>
         ensures { MatchOption result (get (files_made self.now) name.now ≡ None) (λ bytes. get (files_made self.now) name.now ≡ Some bytes.now) }
@@ -129,6 +186,17 @@ impl History {
     {
         &self.operations
     }
+}
+
+// A second owner of names and bytes.
+fn copied(alloc: Global, files: &[(Name, Bytes)]) -> Result<Sequence<(Name, Bytes)>, AllocError>
+    ensures { IfOk result (λ copied. copied ≡ files.now) }
+{
+    let mut copied = Sequence::new(alloc);
+    for (name, bytes) in files {
+        copied.push((name.copy(alloc)?, bytes.copy(alloc)?))?;
+    }
+    Ok(copied)
 }
 
 // Adds an operation where there is room for it.

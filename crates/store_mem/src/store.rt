@@ -1,10 +1,11 @@
 // A store in memory.
-ghost use Rattle.std.specs.Prelude.{◌≡◌, ◌≢◌, [], take, IfOk, MatchOption, None, Some};
+ghost use Rattle.std.specs.Prelude.{◌≡◌, ◌≢◌, ◌≤◌, [], length, take, IfOk, MatchOption, None, Some};
 ghost use Rattle.std.specs.FinMap.{get, len};
 ghost use Rattle.hudi_base.specs.Faults.{CountsFault, one_more};
 ghost use Rattle.hudi_base.specs.Store.{Lists, Fetches, Creates, Appends, Removes};
 ghost use Rattle.store_mem.specs.Calls.{no_calls};
 ghost use Rattle.store_mem.specs.Files.{after_operations, no_operations, told_of};
+ghost use Rattle.store_mem.specs.Stopped.{stopped};
 ghost use Rattle.store_mem.specs.MemStore.{files_of, left_by, MemoryCreates, MemoryAppends, MemoryRemoves};
 
 use crate::calls::Calls;
@@ -103,6 +104,21 @@ impl MemStore {
         ensures { result.now ≡ self.now.history.operations }
     {
         self.history.operations()
+    }
+
+    /// The store that is found after a stop: after the first `done` operations, and within the next one, of which the
+    /// first `most` bytes have arrived where it is an append. It never fails.
+    pub fn stopped(&self, alloc: Global, done: usize, most: u64) -> Result<MemStore, AllocError>
+        requires { done ≤ length self.now.history.operations }
+        ensures { IfOk result (λ left. left ≡
+            record { history = stopped self.now.history done most; changes = no_calls []; prefix = 0; faults = 0 }) }
+    {
+        Ok(MemStore {
+            history: self.history.stopped(alloc, done, most)?,
+            changes: Calls::new(Sequence::new(alloc)),
+            prefix: 0,
+            faults: FaultCount::new(),
+        })
     }
 
     /// How many changing calls there were, since the failures were planned, up to the greatest `u64`.

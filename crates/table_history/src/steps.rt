@@ -17,6 +17,9 @@ pub trait Steps: Work {
     /// The job of the next steps.
     ghost job: { Self → Job };
 
+    /// The second is a later state of the first: what no step changes is the same.
+    ghost later: { Self → Self → Type 0 };
+
     /// Does the next step of the job's law.
     fn apply(&mut self, step: Step) -> Reply
         requires { Allows (record { Asks = Self.asks; Holds = Self.holds }) (job self.old) (phase (entries_of (mine self.old))) step }
@@ -24,5 +27,11 @@ pub trait Steps: Work {
         ensures seen { GoesOn (seen self.old) (seen self.new) }
         ensures last { EndsWith (job self.old) step result (seen self.new) }
         ensures mine { mine self.new ≡ with_entry (job self.old) step result (seen self.new) (mine self.old) }
-        ensures reply { IsReplyOf step result };
+        ensures reply { IsReplyOf step result }
+        ensures later { later self.old self.new };
+
+    /// It is its own later state, and a later state of a later one is one of its own.
+    ghost later_itself: { (steps : Self) → later steps steps };
+
+    ghost later_on: { (first second third : Self) → later first second → later second third → later first third };
 }

@@ -1,0 +1,12 @@
+pub mod Knowing
+pub mod Owing
+pub mod Replying
+pub mod Taking
+pub mod Changing
+pub mod Keeping
+pub mod Lanes
+pub mod Counting
+pub mod Drawing
+pub mod Going
+pub mod Honest
+pub mod Running

@@ -1,0 +1,9 @@
+pub mod Boards
+pub mod HonestRuns
+pub mod Journals
+pub mod KnownEntries
+pub mod Later
+pub mod LaterLaws
+pub mod Outcomes
+pub mod Owed
+pub mod StoreChanges
