@@ -7,6 +7,7 @@ use Rattle.table_history.specs.Operations.{Foresees}
 use Rattle.table_history.specs.Tables.{Table}
 use Rattle.table_history.specs.declared.reply.Reply.{Reply}
 use Rattle.table_history.specs.declared.reply.Reply.TheVariants as reply
+use Rattle.table_history.specs.declared.step.Reader.TheVariants as reader
 use Rattle.table_history.specs.declared.step.Step.{Step}
 use Rattle.table_history.specs.declared.step.Step.TheVariants.{Begin, Enter, Append, Finish, Read}
 
@@ -19,6 +20,7 @@ may_fail A H Begin kind = tt
 may_fail A H (Enter t slots) kind = tt
 may_fail A H (Append t target writes bytes) kind = tt
 may_fail A H (Finish t checkpoint) kind = tt
+may_fail A H (Read (reader.Pin pin) file at len) kind = tt
 may_fail A H _ kind = absurd kind
 
 pub no_memory : (r : Reply) → LeavesEntry r → r ≢ reply.Memory

@@ -1,15 +1,16 @@
 -- What a test knows of the control that it drives.
-use Rattle.std.specs.Prelude.{◌≡◌, ℕ, ◌==◌, false, ◌∷◌, length, IsSomeAnd}
+use Rattle.std.specs.Prelude.{◌≡◌, ℕ, ◌==◌, false, ◌∷◌, Option, Some, None, length, IsSomeAnd}
 use Rattle.file_names.specs.declared.file_name.State.TheVariants as state
 use Rattle.table_core.specs.ControlTables.{IsControl}
 use Rattle.table_core.specs.declared.control.Control.{Control}
 use Rattle.table_history.specs.Answers.{Answers, May, Owns, AllPlaced}
 use Rattle.table_history.specs.Histories.{History}
-use Rattle.table_history.specs.Pins.{pin_of}
+use Rattle.table_history.specs.Pins.{part_at, pin_of}
 use Rattle.table_history.specs.Tables.{Table, Instant}
 use Rattle.table_history.specs.declared.job.Job.{Job}
 use Rattle.table_history.specs.declared.reply.Reply.{Reply}
 use Rattle.table_history.specs.declared.step.Step.{Step}
+use Rattle.table_history.specs.declared.view.View.{View}
 
 -- there is a past of which these are the tables
 pub record HasPast (control : Control) : Type 0 where
@@ -43,6 +44,22 @@ pub record HasPin (control : Control) (job : Job) (pin : ℕ) : Type 0 where
   pub history : History
   pub tables : IsControl table history control
   pub live : IsSomeAnd (pin_of history pin) (λ live. live.job ≡ job)
+
+-- the job has a pin of this view
+pub record HasView (control : Control) (job : Job) (view : View) : Type 0 where
+  pub table : Table
+  pub history : History
+  pub tables : IsControl table history control
+  pub live : IsSomeAnd (pin_of history view.pin) (λ live. (live.job ≡ job) × (live.view ≡ view))
+
+-- the view of a pin, if there is one
+abbrev pub HasViewIfAny : Control → Job → Option View → Type 0
+HasViewIfAny control job None = HasPast control
+HasViewIfAny control job (Some view) = HasView control job view
+
+-- the first file of a view has this length
+abbrev pub IsFirstLength : View → ℕ → Type 0
+IsFirstLength view length = IsSomeAnd (part_at view 0) (λ part. part.length ≡ length)
 
 -- the control was led through a step with this reply
 pub record Leads (old new : Control) (job : Job) (step : Step) (reply : Reply) : Type 0 where

@@ -8,12 +8,13 @@ use Rattle.table_history.specs.declared.step.PartitionSlots.{PartitionSlots}
 use Rattle.table_history.specs.declared.step.Step.{Step}
 use Rattle.table_history.specs.declared.step.Step.TheVariants.{Begin, Enter, Append, Finish, Read}
 
--- it does an operation that may fail, and reads nothing
+-- it does an operation that may fail
 abbrev pub MayFail : Step → Type 0
 MayFail Begin = Unit {0}
 MayFail (Enter t slots) = Unit {0}
 MayFail (Append t target writes bytes) = Unit {0}
 MayFail (Finish t checkpoint) = Unit {0}
+MayFail (Read from file at len) = Unit {0}
 MayFail _ = ⊥
 
 abbrev pub ReadsNothing : Step → Type 0

@@ -1,7 +1,7 @@
 // A control that is led through steps, each decided, told, reserved and taken.
-ghost use Rattle.std.specs.Prelude.{IfOk, OnOk};
+ghost use Rattle.std.specs.Prelude.{IfOk, OnOk, IfSome};
 ghost use Rattle.core_tests.specs.StepKinds.{MayFail, ReadsNothing, AreSlots};
-ghost use Rattle.core_tests.specs.Past.{HasPast, HasInstant, HasPin, Leads, Joins, Keeps, Leaves, IsDrawn, IsWriting, IsPlaced, IsOwned};
+ghost use Rattle.core_tests.specs.Past.{HasPast, HasInstant, HasPin, HasView, HasViewIfAny, IsFirstLength, Leads, Joins, Keeps, Leaves, IsDrawn, IsWriting, IsPlaced, IsOwned};
 ghost use Rattle.table_core.specs.ControlTables.{IsAsked};
 
 use crate::telling::{NOW, tell};
@@ -9,7 +9,7 @@ use hudi_base::{Bytes, InstantTime, Name, Sequence};
 use std::alloc::{AllocError, Global};
 use table_core::Control;
 use table_forms::is_partition_path;
-use table_history::{Entry, Job, PartitionSlots, Reply, Step};
+use table_history::{Entry, Job, PartitionSlots, Reader, Reply, Step, View};
 
 pub(crate) fn fresh(alloc: Global) -> Result<Control, AllocError>
     ensures { IfOk result HasPast }
@@ -255,6 +255,71 @@ fn pin(alloc: Global, control: &mut Control, job: Job, out: &mut String) -> Resu
     }
 }
 
+// A pin at a named instant, if that is completed.
+fn pin_at(
+    alloc: Global,
+    control: &mut Control,
+    job: Job,
+    t: InstantTime,
+    out: &mut String,
+) -> Result<Option<View>, AllocError>
+    requires { HasPast control.old }
+    ensures { IfOk result (λ pinned. HasViewIfAny control.new job pinned) }
+{
+    let step = Step::Pin {
+        at: Some(t),
+        bases_only: false,
+    };
+    match succeed(alloc, control, job, step, out)? {
+        Reply::Pinned(view) => Ok(Some(view)),
+        Reply::NotCompleted(_) => Ok(None),
+        _ => Err(AllocError),
+    }
+}
+
+// The length of the first file of a view.
+fn first_length(view: &View) -> Option<u64>
+    ensures { IfSome result (λ length. IsFirstLength view.now length) }
+{
+    let [group, ..] = view.groups.as_slice() else {
+        return None;
+    };
+    match group.parts.as_slice() {
+        [part, ..] => Some(part.length),
+        _ => None,
+    }
+}
+
+// What is read of a file, from a place behind its first bytes on.
+const PIECE_AT: u64 = 3;
+
+const PIECE_LEN: u64 = 4;
+
+// A Read of the first file that fails.
+fn read_in_vain(
+    alloc: Global,
+    control: &mut Control,
+    job: Job,
+    view: &View,
+    out: &mut String,
+) -> Result<(), AllocError>
+    requires { HasView control.old job view.now }
+    ensures { IfOk result (λ _. HasView control.new job view.now) }
+{
+    match first_length(view) {
+        Some(length) if length >= PIECE_AT + PIECE_LEN => {
+            let step = Step::Read {
+                from: Reader::Pin(view.pin),
+                file: 0,
+                at: PIECE_AT,
+                len: PIECE_LEN,
+            };
+            fail(alloc, control, job, step, out)
+        }
+        _ => Err(AllocError),
+    }
+}
+
 fn unpin(
     alloc: Global,
     control: &mut Control,
@@ -333,4 +398,22 @@ pub(crate) fn look(
 {
     let number = pin(alloc, control, job, out)?;
     unpin(alloc, control, job, number, out)
+}
+
+/// A query at a named instant, whose Read fails.
+pub(crate) fn look_at(
+    alloc: Global,
+    control: &mut Control,
+    job: Job,
+    t: InstantTime,
+    out: &mut String,
+) -> Result<(), AllocError>
+    requires { HasPast control.old }
+    ensures { IfOk result (λ _. HasPast control.new) }
+{
+    let Some(view) = pin_at(alloc, control, job, t, out)? else {
+        return Ok(());
+    };
+    read_in_vain(alloc, control, job, &view, out)?;
+    unpin(alloc, control, job, view.pin, out)
 }

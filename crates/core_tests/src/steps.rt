@@ -3,7 +3,8 @@
 ghost use Rattle.std.specs.Prelude.{IfOk};
 ghost use Rattle.core_tests.specs.Past.{HasPast};
 
-use crate::driving::{begin_in_vain, fresh, look, write, write_in_vain, write_unfinished};
+use crate::driving::{begin_in_vain, fresh, look, look_at, write, write_in_vain, write_unfinished};
+use crate::telling::instant;
 use std::alloc::{AllocError, Global};
 use std::test::Fail;
 use table_core::Control;
@@ -19,9 +20,11 @@ enum Action {
     WriteUnfinished(usize),
     BeginInVain,
     Look,
+    // A query at an instant so many milliseconds after the first one, whose Read fails.
+    LookAt(u64),
 }
 
-use Action::{BeginInVain, Look, Write, WriteInVain, WriteUnfinished};
+use Action::{BeginInVain, Look, LookAt, Write, WriteInVain, WriteUnfinished};
 
 fn act(
     alloc: Global,
@@ -38,6 +41,7 @@ fn act(
         WriteUnfinished(length) => write_unfinished(alloc, control, JOB, length, out),
         BeginInVain => begin_in_vain(alloc, control, JOB, out),
         Look => look(alloc, control, JOB, out),
+        LookAt(ms) => look_at(alloc, control, JOB, instant(ms), out),
     }
 }
 
@@ -109,6 +113,25 @@ pinned 2, completed 0, x/.0000ffff-4f01-52df-a6be-557d177dca72-0_200001010000000
 done
 ";
 
+// A named instant has its own completed instants, and files at their known lengths. One that isn't completed has no pin.
+const INSTANTS_ARE_NAMED: &str = "\
+began 0; create .hoodie/20240101000000000.deltacommit.requested
+entered 1; create .hoodie/20240101000000000.deltacommit.inflight
+placed 1 0; append 10 to x/.0000ffff-4f01-52df-a6be-557d177dca72-0_20000101000000000.log.1_0-0-0
+completed 0; create .hoodie/20240101000000000.deltacommit
+began 1; create .hoodie/20240101000000001.deltacommit.requested
+entered 1; create .hoodie/20240101000000001.deltacommit.inflight
+placed 1 10; append 7 to x/.0000ffff-4f01-52df-a6be-557d177dca72-0_20000101000000000.log.1_0-0-0
+completed 1; create .hoodie/20240101000000001.deltacommit
+pinned 1, completed 0, x/.0000ffff-4f01-52df-a6be-557d177dca72-0_20000101000000000.log.1_0-0-0 of 17
+piece; read 4 at 3 of x/.0000ffff-4f01-52df-a6be-557d177dca72-0_20000101000000000.log.1_0-0-0
+done
+not completed 2
+pinned 2, completed 0 1, x/.0000ffff-4f01-52df-a6be-557d177dca72-0_20000101000000000.log.1_0-0-0 of 17
+piece; read 4 at 3 of x/.0000ffff-4f01-52df-a6be-557d177dca72-0_20000101000000000.log.1_0-0-0
+done
+";
+
 #[test]
 fn steps_are_decided(rt: HostRuntime) -> Result<(), Fail> {
     let first = told(rt.alloc(), &[WriteInVain(129), Write(128), Look])?;
@@ -119,5 +142,10 @@ fn steps_are_decided(rt: HostRuntime) -> Result<(), Fail> {
     assert_eq!(rt; finish.as_str(), FINISH_FAILS);
     let begin = told(rt.alloc(), &[Look, BeginInVain, Write(1), Look])?;
     assert_eq!(rt; begin.as_str(), BEGIN_FAILS);
+    let named = told(
+        rt.alloc(),
+        &[Write(10), Write(7), LookAt(0), LookAt(2), LookAt(1)],
+    )?;
+    assert_eq!(rt; named.as_str(), INSTANTS_ARE_NAMED);
     Ok(())
 }

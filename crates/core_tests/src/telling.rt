@@ -7,6 +7,14 @@ use table_history::{Decision, Op, Part, Reply, View};
 /// 2024-01-01T00:00:00.000, in milliseconds.
 pub(crate) const NOW: i64 = 1_704_067_200_000;
 
+/// The instant so many milliseconds after NOW.
+pub(crate) fn instant(ms: u64) -> InstantTime {
+    match InstantTime::from_ms((NOW as u64).saturating_add(ms)) {
+        Some(t) => t,
+        None => InstantTime::LAST,
+    }
+}
+
 // Milliseconds after NOW.
 fn after_now(t: InstantTime) -> u64 {
     t.ms().saturating_sub(NOW as u64)
@@ -59,6 +67,11 @@ fn tell_reply(reply: &Reply, out: &mut String) -> Result<(), AllocError> {
             write!(out, "completed {t}")
         }
         Reply::Pinned(view) => tell_view(view, out),
+        Reply::NotCompleted(t) => {
+            let t = after_now(*t);
+            write!(out, "not completed {t}")
+        }
+        Reply::Piece(_) => out.push_str("piece"),
         Reply::Done => out.push_str("done"),
         _ => out.push_str("other"),
     }
@@ -74,6 +87,10 @@ fn tell_op(op: &Op, out: &mut String) -> Result<(), AllocError> {
             let name = name.as_str();
             let length = bytes.as_slice().len();
             write!(out, "; append {length} to {name}\n")
+        }
+        Op::Read(name, at, len) => {
+            let name = name.as_str();
+            write!(out, "; read {len} at {at} of {name}\n")
         }
         Op::Nothing => out.push_str("\n"),
         _ => out.push_str("; other\n"),
