@@ -1,0 +1,2 @@
+pub mod IdLengths
+pub mod Seen

@@ -1,0 +1,13 @@
+//! What the jobs of a table share: the codec of a table with its name and the text of its schema, and the answer that
+//! a job's own entries tell.
+//!
+//! Its contract is in its definitions: which reply of a step ends a job, and with which answer. It stands on
+//! `table_history` for steps and `table_core` for the answers of jobs, on `payload_merge` for codecs and on `file_names`
+//! for file ids.
+#![tactic(auto)]
+
+mod ids;
+mod table_codec;
+
+pub use ids::file_id_of;
+pub use table_codec::TableCodec;

@@ -1,0 +1,4 @@
+pub mod Leaving
+pub mod PlacedRows
+pub mod Runs
+pub mod WholeBatches

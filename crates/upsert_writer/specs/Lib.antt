@@ -1,0 +1,4 @@
+pub mod BatchRows
+pub mod Slots
+pub mod Blocks
+pub mod Writers

@@ -1,0 +1,273 @@
+// The writer.
+ghost use Rattle.std.specs.Prelude.{◌≡◌, ◌<◌, ◌+◌, ◌^◌, ℕ, List, [], length, All, MatchResult};
+ghost use Rattle.hudi_base.specs.declared.file_group.Target.{Target};
+ghost use Rattle.table_history.specs.JobLaw.{Allows, Drawn, GoesOn, Writes, entries_of, phase};
+ghost use Rattle.table_history.specs.declared.step.PartitionSlots.{PartitionSlots};
+ghost use Rattle.table_history.specs.declared.step.Step.TheVariants.{Abandon};
+ghost use Rattle.table_forms.specs.NameForms.{IsPartitionPath};
+ghost use Rattle.table_jobs.specs.Replies.{IsTold, IsWriterReply, told};
+ghost use Rattle.upsert_writer.specs.BatchRows.{IsBatch, is_in_group, rows_of};
+ghost use Rattle.upsert_writer.specs.Blocks.{HoldsEach, HoldsRows};
+ghost use Rattle.upsert_writer.specs.Slots.{AreSlotsOf};
+ghost use Rattle.upsert_writer.specs.Writers.{IsAt, IsLeft};
+
+use crate::Batch;
+use crate::blocks::block_of;
+use crate::rows::rows_at;
+use crate::slots::slots_of;
+use hudi_base::{Gate, InstantTime, Place, Sequence, Target};
+use payload_merge::{Row, Rows};
+use std::alloc::Global;
+use table_core::JobReply;
+use table_history::{PartitionSlots, Reply, Step, Steps};
+use table_jobs::TableCodec;
+
+// Leaves an instant pending.
+#[tactic(auto, using(crate::proofs::Leaving::leaving))]
+fn leave<T: Steps>(steps: &mut T, t: InstantTime)
+    requires { Allows (record { Asks = T.asks; Holds = T.holds }) (T.job steps.old) (phase (entries_of (T.mine steps.old))) (Abandon t) }
+    ensures job { T.job steps.new ≡ T.job steps.old }
+    ensures seen { GoesOn (T.seen steps.old) (T.seen steps.new) }
+    ensures left { IsLeft (entries_of (T.mine steps.old)) (entries_of (T.mine steps.new)) }
+{
+    match steps.apply(Step::Abandon { t }) {
+        Reply::Done => {}
+        _ => unreachable!(),
+    }
+}
+
+// Draws the instant.
+fn begin<T: Steps>(steps: &mut T) -> Result<InstantTime, JobReply>
+    requires { T.mine steps.old ≡ [] }
+    ensures job { T.job steps.new ≡ T.job steps.old }
+    ensures seen { GoesOn (T.seen steps.old) (T.seen steps.new) }
+    ensures answer { MatchResult result (λ t. IsAt (Drawn t) (entries_of (T.mine steps.new)))
+        (λ reply. IsWriterReply (entries_of (T.mine steps.new)) reply) }
+{
+    match steps.apply(Step::Begin {}) {
+        Reply::Began(t) => Ok(t),
+        Reply::TimeOver => Err(JobReply::TimeOver),
+        Reply::Fault => Err(JobReply::Fault),
+        Reply::Damaged(name, cause) => Err(JobReply::Damaged(name, cause, 0)),
+        Reply::Memory => Err(JobReply::Memory),
+        _ => unreachable!(),
+    }
+}
+
+// Asks for the targets of the slots.
+#[tactic(auto, using(table_jobs::proofs::Seen::goes_on))]
+fn enter<T: Steps>(
+    steps: &mut T,
+    t: InstantTime,
+    slots: Sequence<PartitionSlots>,
+) -> Result<Sequence<Target>, JobReply>
+    requires drawn { IsAt (Drawn t) (entries_of (T.mine steps.old)) }
+    requires paths { All (λ asked. IsPartitionPath asked.partition) slots }
+    requires asks { T.asks (T.job steps.old) slots }
+    ensures job { T.job steps.new ≡ T.job steps.old }
+    ensures seen { GoesOn (T.seen steps.old) (T.seen steps.new) }
+    ensures answer { MatchResult result (λ targets. IsAt (Writes t targets 0) (entries_of (T.mine steps.new)))
+        (λ reply. IsWriterReply (entries_of (T.mine steps.new)) reply) }
+{
+    match steps.apply(Step::Enter { t, slots }) {
+        Reply::Entered(targets) => Ok(targets),
+        Reply::Fault => {
+            leave(steps, t);
+            Err(JobReply::Fault)
+        }
+        Reply::Damaged(name, cause) => {
+            leave(steps, t);
+            Err(JobReply::Damaged(name, cause, 0))
+        }
+        Reply::Memory => {
+            leave(steps, t);
+            Err(JobReply::Memory)
+        }
+        _ => unreachable!(),
+    }
+}
+
+// Completes the instant.
+#[tactic(auto, using(table_jobs::proofs::Seen::goes_on))]
+fn finish<T: Steps>(steps: &mut T, t: InstantTime, targets: &[Target]) -> JobReply
+    requires { IsAt (Writes t targets.now (length targets.now)) (entries_of (T.mine steps.old)) }
+    ensures job { T.job steps.new ≡ T.job steps.old }
+    ensures seen { GoesOn (T.seen steps.old) (T.seen steps.new) }
+    ensures answer { IsWriterReply (entries_of (T.mine steps.new)) result }
+{
+    match steps.apply(Step::Finish {
+        t,
+        checkpoint: None,
+    }) {
+        Reply::Completed(t) => JobReply::Committed(t),
+        Reply::Fault => {
+            leave(steps, t);
+            JobReply::Fault
+        }
+        Reply::Damaged(file, cause) => {
+            leave(steps, t);
+            JobReply::Damaged(file, cause, 0)
+        }
+        Reply::Memory => {
+            leave(steps, t);
+            JobReply::Memory
+        }
+        _ => unreachable!(),
+    }
+}
+
+// Appends the block of the target with this number.
+#[tactic(auto, using(table_jobs::proofs::Seen::goes_on))]
+fn append<T: Steps, K: TableCodec>(
+    alloc: Global,
+    steps: &mut T,
+    codec: &K,
+    t: InstantTime,
+    targets: &[Target],
+    number: usize,
+    rows: &[Row],
+) -> Result<(), JobReply>
+    requires number { number < length targets.now }
+    requires so_far { IsAt (Writes t targets.now number) (entries_of (T.mine steps.old)) }
+    requires own { All (K.own_row codec.now) rows.now }
+    requires at { All (λ row. row.commit ≡ t) rows.now }
+    requires counted { length rows.now < 2 ^ 32 }
+    requires holds { HoldsRows T.holds (T.job steps.old)
+        (record { reading = K.block_rows codec.now; table = K.table_name codec.now; schema = K.schema codec.now }) rows.now t }
+    ensures job { T.job steps.new ≡ T.job steps.old }
+    ensures seen { GoesOn (T.seen steps.old) (T.seen steps.new) }
+    ensures answer { MatchResult result (λ _. IsAt (Writes t targets.now (number + 1)) (entries_of (T.mine steps.new)))
+        (λ reply. IsWriterReply (entries_of (T.mine steps.new)) reply) }
+{
+    let (Ok(block), Ok(target)) = (
+        block_of(alloc, codec, t, &targets[number].group, rows),
+        u32::try_from(number),
+    ) else {
+        leave(steps, t);
+        return Err(JobReply::Memory);
+    };
+    match steps.apply(Step::Append {
+        t,
+        target,
+        writes: block.writes,
+        bytes: block.bytes,
+    }) {
+        Reply::Placed(_, _) => Ok(()),
+        Reply::Fault => {
+            leave(steps, t);
+            Err(JobReply::Fault)
+        }
+        Reply::Memory => {
+            leave(steps, t);
+            Err(JobReply::Memory)
+        }
+        _ => unreachable!(),
+    }
+}
+
+// Appends the block of each target.
+#[tactic(auto, using(table_jobs::proofs::Seen::goes_on, table_jobs::proofs::Seen::stays))]
+fn append_all<T: Steps, K: TableCodec, G: Gate>(
+    alloc: Global,
+    steps: &mut T,
+    codec: &K,
+    t: InstantTime,
+    targets: &[Target],
+    rows: &[Row],
+    lane: u32,
+    gate: &G,
+) -> Result<(), JobReply>
+    requires so_far { IsAt (Writes t targets.now 0) (entries_of (T.mine steps.old)) }
+    requires own { All (K.own_row codec.now) rows.now }
+    requires at { All (λ row. row.commit ≡ t) rows.now }
+    requires counted { length rows.now < 2 ^ 32 }
+    requires holds { HoldsRows T.holds (T.job steps.old)
+        (record { reading = K.block_rows codec.now; table = K.table_name codec.now; schema = K.schema codec.now }) rows.now t }
+    ensures job { T.job steps.new ≡ T.job steps.old }
+    ensures seen { GoesOn (T.seen steps.old) (T.seen steps.new) }
+    ensures answer { MatchResult result (λ _. IsAt (Writes t targets.now (length targets.now)) (entries_of (T.mine steps.new)))
+        (λ reply. IsWriterReply (entries_of (T.mine steps.new)) reply) }
+{
+    for number in 0..targets.len() {
+        if let Err(reply) = append(alloc, steps, codec, t, targets, number, rows) {
+            return Err(reply);
+        }
+        gate.at(lane, Place::AfterAppend);
+    }
+    Ok(())
+}
+
+// Makes the rows the instant's and appends the block of each target.
+#[tactic(auto, using(table_jobs::proofs::Seen::goes_on))]
+fn write_rows<T: Steps, K: TableCodec, G: Gate>(
+    alloc: Global,
+    steps: &mut T,
+    codec: &K,
+    t: InstantTime,
+    targets: &[Target],
+    rows: Rows,
+    lane: u32,
+    gate: &G,
+) -> Result<(), JobReply>
+    requires so_far { IsAt (Writes t targets.now 0) (entries_of (T.mine steps.old)) }
+    requires batch { IsBatch (K.own_row codec.now) rows }
+    requires holds { HoldsEach T.holds (T.job steps.old)
+        (record { reading = K.block_rows codec.now; table = K.table_name codec.now; schema = K.schema codec.now }) rows }
+    ensures job { T.job steps.new ≡ T.job steps.old }
+    ensures seen { GoesOn (T.seen steps.old) (T.seen steps.new) }
+    ensures answer { MatchResult result (λ _. IsAt (Writes t targets.now (length targets.now)) (entries_of (T.mine steps.new)))
+        (λ reply. IsWriterReply (entries_of (T.mine steps.new)) reply) }
+{
+    let _ms = t.ms();
+    let Ok(rows) = rows_at(alloc, rows, t) else {
+        leave(steps, t);
+        return Err(JobReply::Memory);
+    };
+    append_all(alloc, steps, codec, t, targets, &rows, lane, gate)
+}
+
+/// Writes the rows of a batch as one deltacommit: it draws an instant, asks for the file groups of the rows' slots,
+/// appends to each a block of the rows that lie in it, and completes the instant. Where a step fails, or memory is
+/// wanting, it leaves the instant pending. The answer is `Committed`, `TimeOver`, `Fault`, `Damaged` or `Memory`.
+#[tactic(auto, using(table_jobs::proofs::Seen::goes_on, table_jobs::proofs::Seen::stays))]
+pub fn write_batch<T: Steps, K: TableCodec, G: Gate>(
+    alloc: Global,
+    steps: &mut T,
+    codec: &K,
+    batch: Batch,
+    lane: u32,
+    gate: &G,
+) -> JobReply
+    // The job has made no entry yet.
+    requires new { T.mine steps.old ≡ [] }
+    requires batch { IsBatch (K.own_row codec.now) (rows_of batch) }
+    // The table takes the batch as the job's: the slots that are asked for, and the blocks that may be written of it.
+    requires asks { (slots : List PartitionSlots) → AreSlotsOf (rows_of batch) slots → T.asks (T.job steps.old) slots }
+    requires holds { HoldsEach T.holds (T.job steps.old)
+        (record { reading = K.block_rows codec.now; table = K.table_name codec.now; schema = K.schema codec.now }) (rows_of batch) }
+    ensures job { T.job steps.new ≡ T.job steps.old }
+    ensures seen { GoesOn (T.seen steps.old) (T.seen steps.new) }
+    // The answer is the one that the job's own entries tell, and these are its automaton to an end.
+    ensures answer { IsWriterReply (entries_of (T.mine steps.new)) result }
+{
+    let Batch::Puts(rows) = batch;
+    let Ok(slots) = slots_of(alloc, rows.as_slice()) else {
+        return JobReply::Memory;
+    };
+    let t = match begin(steps) {
+        Ok(t) => t,
+        Err(reply) => return reply,
+    };
+    gate.at(lane, Place::AfterBegin);
+    let targets = match enter(steps, t, slots) {
+        Ok(targets) => targets,
+        Err(reply) => return reply,
+    };
+    gate.at(lane, Place::AfterEnter);
+    let targets = targets.as_slice();
+    if let Err(reply) = write_rows(alloc, steps, codec, t, targets, rows, lane, gate) {
+        return reply;
+    }
+    gate.at(lane, Place::BeforeFinish);
+    finish(steps, t, targets)
+}
