@@ -16,8 +16,10 @@ use Rattle.table_images.specs.Runs.{whole}
 use Rattle.table_images.proofs.Lines.{some_same}
 use Rattle.table_board.proofs.Drawing.{asked_later}
 use Rattle.table_board.proofs.Honest.{told_after}
-use Rattle.table_board.specs.Boards.{AsksClock, Origin}
-use Rattle.table_board.specs.Later.{DoesMore, IsLater, ToldLater}
+use Rattle.table_history.specs.Histories.{History}
+use Rattle.table_history.specs.declared.job.Job.{Job}
+use Rattle.table_board.specs.Boards.{after_step, AsksClock, Origin}
+use Rattle.table_board.specs.Later.{DoesMore, IsLater, IsLaterSolo, ToldLater}
 use Rattle.table_board.specs.LaterLaws.{told_itself}
 use Rattle.table_board.specs.StoreChanges.{after_op, Changes, LeavesAtFault, LeftBy}
 
@@ -68,3 +70,9 @@ pub stepped : (from to : Origin) (was now : Type 0) (old new : StoreState) (befo
     → Changes was p r old.told new.told → CountsFault old.faults new.faults failed → AsksClock s before after → IsLater from to was now old new before after
 stepped from to was now old new before after p s r failed same honest changes counts asks =
     record { origin = same; honest = honest; told = told_later was p r old.told new.told changes; faults = counts.never_falls; most = asked_later s before after asks }
+
+-- what it adds to the entries
+pub stepped_alone : (j : Job) (s : Step) (r : Reply) (H K : History) (Later : Type 0) → K ≡ after_step j s r H → Later → IsLaterSolo j j H K Later
+stepped_alone j s reply.Memory H K Later is board = record { job_is = refl; adds = record { mine = []; are = is; own = tt }; board = board }
+stepped_alone j s r H K Later is board =
+    record { job_is = refl; adds = record { mine = record { job = j; step = s; reply = r } ∷ []; are = is; own = (refl, tt) }; board = board }

@@ -48,8 +48,8 @@ impl<S: Store, C: Clock, W: Work> Work for Solo<S, C, W> {
 
 impl<S: Store, C: Clock, W: Work> Steps for Solo<S, C, W> {
     ghost use Rattle.table_board.specs.Boards.{placed_own};
-    ghost use Rattle.table_board.specs.Later.{IsLater};
-    ghost use Rattle.table_board.specs.LaterLaws.{later_itself, later_on};
+    ghost use Rattle.table_board.specs.Later.{IsLater, IsLaterSolo};
+    ghost use Rattle.table_board.specs.LaterLaws.{alone_itself, alone_on, later_itself, later_on};
 
     ghost seen = { λ solo. solo.board.entries };
 
@@ -57,17 +57,20 @@ impl<S: Store, C: Clock, W: Work> Steps for Solo<S, C, W> {
 
     ghost job = { λ solo. solo.job };
 
-    ghost later = { λ first second. IsLater first.board.origin second.board.origin (S.is_honest first.board.store)
+    ghost later = { λ first second. IsLaterSolo first.job second.job first.board.entries second.board.entries
+        (IsLater first.board.origin second.board.origin (S.is_honest first.board.store)
         (S.is_honest second.board.store) (S.state first.board.store) (S.state second.board.store)
-        (C.state first.board.clock) (C.state second.board.clock) };
+        (C.state first.board.clock) (C.state second.board.clock)) };
 
-    ghost later_itself = { λ solo. later_itself solo.board.origin (S.is_honest solo.board.store)
-        (S.state solo.board.store) (C.state solo.board.clock) };
+    ghost later_itself = { λ solo. alone_itself solo.job solo.board.entries _ (later_itself solo.board.origin
+        (S.is_honest solo.board.store) (S.state solo.board.store) (C.state solo.board.clock)) };
 
-    ghost later_on = { λ first second third. later_on first.board.origin second.board.origin third.board.origin
+    ghost later_on = { λ first second third. alone_on first.job second.job third.job first.board.entries
+        second.board.entries third.board.entries _ _ _
+        (later_on first.board.origin second.board.origin third.board.origin
         (S.is_honest first.board.store) (S.is_honest second.board.store) (S.is_honest third.board.store)
         (S.state first.board.store) (S.state second.board.store) (S.state third.board.store)
-        (C.state first.board.clock) (C.state second.board.clock) (C.state third.board.clock) };
+        (C.state first.board.clock) (C.state second.board.clock) (C.state third.board.clock)) };
 
     #[tactic(auto, using(crate::proofs::Lanes::goes_on, crate::proofs::Lanes::ends_with, crate::proofs::Lanes::placed_more, crate::proofs::Lanes::own_of_placed))]
     fn apply(&mut self, step: Step) -> Reply {
