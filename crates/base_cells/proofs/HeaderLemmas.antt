@@ -1,6 +1,6 @@
 -- A page's header takes a byte at least.
 use Rattle.std.proofs.Common.{◌≡◌, ℕ, pos, ◌<◌, List, ◌∷◌, length, Ok, refl, ap, arith}
-use Rattle.byte_fields.specs.Reading.{Reading, ◌>>=◌, only_some}
+use Rattle.byte_fields.specs.Reading.{◌>>=◌, only_some}
 use Rattle.byte_fields.proofs.ReadingLemmas.{bind-Ok, read_once}
 use Rattle.thrift_compact.specs.Values.{struct_at}
 use Rattle.thrift_compact.proofs.FieldsLemmas.{fields_at-shorter}

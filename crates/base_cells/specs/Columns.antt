@@ -1,6 +1,6 @@
 -- When a footer tells of a file of certain columns: its schema has just these as leaves of the root, and each row group has
 -- a chunk of each, of as many values as the group has rows. Versions, sizes, encodings and `file_offset` aren't looked at.
-use Rattle.std.specs.Prelude.{ℕ, ℤ, pos, Bool, true, false, not, ◌&&◌, if◌then◌else◌, List, [], ◌∷◌, length, Option, is_some, Result, Ok, Err, sum_by}
+use Rattle.std.specs.Prelude.{ℕ, ℤ, pos, Bool, true, false, ◌&&◌, if◌then◌else◌, List, [], ◌∷◌, length, Option, is_some, Result, Ok, Err, sum_by}
 use Rattle.std.specs.List.{list_all}
 use Rattle.std.specs.Option.{option_map_or}
 use Rattle.std.specs.Ordering.{int_eq}

@@ -1,5 +1,5 @@
 -- Rows and columns of cells.
-use Rattle.std.specs.Prelude.{ℕ, List, [], ◌∷◌, map, slice_index_or}
+use Rattle.std.specs.Prelude.{ℕ, List, map, slice_index_or}
 use Rattle.std.specs.List.{range_with_len}
 use Rattle.hudi_base.specs.declared.value.Value.{Value}
 use Rattle.hudi_base.specs.declared.value.Value.TheVariants.{Null}

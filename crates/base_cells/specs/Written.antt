@@ -1,6 +1,6 @@
 -- The one written form of a file of rows of cells: row groups of 10,000 rows except the last, one page for each column of a
 -- group, and sizes that count the pages' headers.
-use Rattle.std.specs.Prelude.{ℕ, zero, suc, ◌+◌, pos, false, codes, List, [], ◌∷◌, ◌++◌, length, take, drop, map, Option, Some, None}
+use Rattle.std.specs.Prelude.{ℕ, zero, suc, ◌+◌, pos, false, codes, List, [], ◌∷◌, ◌++◌, length, take, drop, map, Some, None}
 use Rattle.byteorder.specs.Endian.{little_bytes}
 use Rattle.hudi_base.specs.declared.column.Column.{Column}
 use Rattle.hudi_base.specs.declared.value.Value.{Value}
@@ -33,19 +33,23 @@ groups_pages columns (rows ∷ groups) = group_pages columns rows ++ groups_page
 
 -- ---- what the footer says of them
 
--- the chunk whose one page begins at a place
-abbrev pub chunk_of : ℕ → Column → List Value → Chunk
-chunk_of at column cells = record {
+-- a chunk of so many cells, whose one page begins at a place and has so many bytes
+abbrev pub chunk_with : ℕ → Column → ℕ → ℕ → Chunk
+chunk_with at column count size = record {
   file_offset = pos at;
   physical = column.physical;
   encodings = pos 0 ∷ pos 3 ∷ [];
   path = column.name ∷ [];
   codec = pos 0;
-  num_values = pos (length cells);
-  uncompressed = pos (length (page_bytes column cells));
-  compressed = pos (length (page_bytes column cells));
+  num_values = pos count;
+  uncompressed = pos size;
+  compressed = pos size;
   data_offset = pos at;
 }
+
+-- the chunk of these cells, whose page begins at a place
+abbrev pub chunk_of : ℕ → Column → List Value → Chunk
+chunk_of at column cells = chunk_with at column (length cells) (length (page_bytes column cells))
 
 abbrev pub chunks_of : ℕ → List Column → List (List Value) → List Chunk
 chunks_of at [] cells = []

@@ -1,5 +1,5 @@
 // Whether a footer tells of a file of certain columns.
-ghost use Rattle.std.specs.Prelude.{◌≡◌, pos, length, sum_by, IfOk};
+ghost use Rattle.std.specs.Prelude.{◌≡◌, true, pos, length, sum_by, IfOk};
 ghost use Rattle.std.specs.List.{list_all};
 ghost use Rattle.std.specs.Ordering.{int_eq};
 ghost use Rattle.base_cells.specs.Ends.{footer_start};
@@ -152,6 +152,7 @@ pub fn read_footer(
 ) -> Result<(FileMeta, usize), BaseError>
     ensures meta { Answers (λ x. x.0) result (meta_at columns.now bytes.now) }
     ensures start { IfOk result (λ x. x.1 ≡ footer_start bytes.now) }
+    ensures groups { IfOk result (λ x. list_all (is_group_of columns.now) x.0.groups ≡ true) }
 {
     let (meta, start) = plain_meta_at(alloc, bytes)?;
     if !is_meta_of(columns.as_slice(), &meta) {

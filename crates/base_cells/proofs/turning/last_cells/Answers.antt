@@ -1,4 +1,4 @@
-use Rattle.std.proofs.Common.{◌≡◌, ◌+◌, ◌<◌, ◌++◌, ◌∷◌, [], List, length, take, get_or, set, sym, ap, ◌∙◌, arith}
+use Rattle.std.proofs.Common.{◌≡◌, ◌<◌, ◌++◌, ◌∷◌, [], List, length, take, get_or, set, sym, ap, ◌∙◌, arith}
 use Rattle.std.proofs.lemmas.List.Edits.{map_over_more}
 use Rattle.hudi_base.specs.declared.value.Value.{Value}
 use Rattle.hudi_base.specs.declared.value.Value.TheVariants.{Null}
@@ -18,7 +18,7 @@ loop-list-preserved c =
     let now : c.move_last.new.list ≡ take last item = c.move_last.ensures.list ∙ ap (take last) (sym c.list-item.is) in (
       ap (set ys i) now ∙ map_over_more (take last) xs ys i item lt c.loop-list.invariant.0 c.list-item.is,
       c.in_ok-move_last.ensures.cells
-      ∙ ap (λ (cells : List Value). cells ++ get_or (get_or ys i item) last Null ∷ []) c.loop-list.invariant.1
-      ∙ ap (λ (cells : List Value). cells_at (take i xs) last ++ get_or cells last Null ∷ []) same
-      ∙ sym (cells_at-more i last xs item lt),
+          ∙ ap (λ (cells : List Value). cells ++ get_or (get_or ys i item) last Null ∷ []) c.loop-list.invariant.1
+          ∙ ap (λ (cells : List Value). cells_at (take i xs) last ++ get_or cells last Null ∷ []) same
+          ∙ sym (cells_at-more i last xs item lt),
     )

@@ -1,4 +1,4 @@
-use Rattle.std.proofs.Common.{◌≡◌, ◌∙◌, ◌<◌, ◌-◌, ap, map, take, arith}
+use Rattle.std.proofs.Common.{◌∙◌, ◌<◌, ◌-◌, ap, map, take, arith}
 use Rattle.base_cells.proofs.TurnedLemmas.{takes-all, takes-less, left_long, turned_none, turned_step, turned_end}
 use Rattle.base_cells.proofs.turning.turned.Goals as goal
 

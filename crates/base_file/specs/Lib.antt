@@ -1,0 +1,3 @@
+pub mod BaseFiles
+pub mod KeyTables
+pub mod Loops
