@@ -1,0 +1,4 @@
+pub mod FieldLemmas
+pub mod CellLemmas
+pub mod JsonLemmas
+pub mod ToldLemmas

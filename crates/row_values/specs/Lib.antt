@@ -1,0 +1,5 @@
+pub mod Fields
+pub mod Layouts
+pub mod Cells
+pub mod RowCells
+pub mod JsonRows
