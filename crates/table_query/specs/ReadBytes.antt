@@ -1,0 +1,32 @@
+-- What a query has pinned and read, by its own entries, of which the last comes first.
+use Rattle.std.specs.Prelude.{◌≡◌, ℕ, ◌==◌, if◌then◌else◌, List, [], ◌∷◌, ◌++◌, length, Option, Some, None}
+use Rattle.table_history.specs.Pins.{part_at}
+use Rattle.table_history.specs.declared.entry.Entry.{Entry}
+use Rattle.table_history.specs.declared.reply.Reply.{Reply}
+use Rattle.table_history.specs.declared.reply.Reply.TheVariants.{Piece, Pinned}
+use Rattle.table_history.specs.declared.step.Step.{Step}
+use Rattle.table_history.specs.declared.step.Step.TheVariants.{Read}
+use Rattle.table_history.specs.declared.view.Part.{Part}
+use Rattle.table_history.specs.declared.view.View.{View}
+
+abbrev pub piece_of : Step → Reply → ℕ → List ℕ
+piece_of (Read from number at len) (Piece bytes) file = if number == file then bytes else []
+piece_of _ _ file = []
+
+-- the bytes of a file, by its number in the view: its pieces, one behind another
+abbrev pub bytes_read : List Entry → ℕ → List ℕ
+bytes_read [] file = []
+bytes_read (e ∷ es) file = bytes_read es file ++ piece_of e.step e.reply file
+
+-- the view that was pinned
+abbrev pub pinned : List Entry → Option View
+pinned [] = None
+pinned (e ∷ es) = by e.reply (pinned es)
+  where
+    by : Reply → Option View → Option View
+    by (Pinned view) before = Some view
+    by _ before = before
+
+-- each file of the view was read to its end
+abbrev pub IsReadWhole : View → (ℕ → List ℕ) → Type 0
+IsReadWhole view bytes = (file : ℕ) (part : Part) → part_at view file ≡ Some part → length (bytes file) ≡ part.length
