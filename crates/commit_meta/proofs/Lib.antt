@@ -1,5 +1,2 @@
-pub mod ListLemmas
-pub mod Objects
-pub mod PartsBack
 pub mod ReadBack
 pub mod Readable

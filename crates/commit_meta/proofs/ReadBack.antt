@@ -13,25 +13,26 @@ use Rattle.table_forms.specs.JsonObjects.{json_of, least_unknown}
 use Rattle.file_names.specs.FileName.{IsGroup}
 use Rattle.file_names.specs.declared.file_name.Action.{Action}
 use Rattle.file_names.specs.declared.file_name.Action.TheVariants as action
-use Rattle.commit_meta.specs.Members.{text_in, all_of}
+use Rattle.meta_parts.specs.Members.{text_in, all_of}
 use Rattle.commit_meta.specs.Metadata.{claims_in, delta_in, compact_in, bases_in, cluster_in, replaced_in, clean_in, cleaned_in, rollback_in, rolled_back_in, read_object, read_as, object_in, ◌>>=◌}
-use Rattle.commit_meta.specs.Parts.{group_in, target_in, written_target_in, plan_group_in, base_in, text_json, group_json, target_json, written_target_json, plan_group_json, base_json}
-use Rattle.commit_meta.specs.Texts.{meta_json, meta_bytes, content_in, IsTarget, IsOfKind, IsWritable}
+use Rattle.meta_parts.specs.Parts.{group_in, target_in, written_target_in, plan_group_in, base_in, text_json, group_json, target_json, written_target_json, plan_group_json, base_json}
+use Rattle.meta_parts.specs.Parts.{IsTarget}
+use Rattle.commit_meta.specs.Texts.{meta_json, meta_bytes, content_in, IsOfKind, IsWritable}
 use Rattle.commit_meta.specs.declared.content.Content.{Content}
 use Rattle.commit_meta.specs.declared.content.Content.TheVariants as content
 use Rattle.commit_meta.specs.declared.meta.Meta.{Meta}
 use Rattle.commit_meta.specs.declared.meta.Meta.TheVariants.{Empty, Claims, Delta, Compact, Bases, Cluster, Replaced, Clean, Cleaned, Rollback, RolledBack}
-use Rattle.commit_meta.specs.declared.meta.BaseMade.{BaseMade}
+use Rattle.meta_parts.specs.declared.parts.BaseMade.{BaseMade}
 use Rattle.commit_meta.specs.declared.meta.BasesMeta.{BasesMeta}
 use Rattle.commit_meta.specs.declared.meta.CleanPlan.{CleanPlan}
 use Rattle.commit_meta.specs.declared.meta.ClusterPlan.{ClusterPlan}
 use Rattle.commit_meta.specs.declared.meta.CompactPlan.{CompactPlan}
 use Rattle.commit_meta.specs.declared.meta.DeltaMeta.{DeltaMeta}
-use Rattle.commit_meta.specs.declared.meta.PlanGroup.{PlanGroup}
+use Rattle.meta_parts.specs.declared.parts.PlanGroup.{PlanGroup}
 use Rattle.commit_meta.specs.declared.meta.ReplacedMeta.{ReplacedMeta}
 use Rattle.commit_meta.specs.declared.meta.RollbackPlan.{RollbackPlan}
-use Rattle.commit_meta.proofs.PartsBack as parts
-use Rattle.commit_meta.proofs.PartsBack.{list_depth, list_no_float}
+use Rattle.meta_parts.proofs.PartsBack as parts
+use Rattle.meta_parts.proofs.PartsBack.{list_depth, list_no_float}
 
 texts_back : (texts : List (List ℕ)) → all_of text_in (items_of (map text_json texts)) ≡ Some texts
 texts_back texts = parts.any_back text_in text_json (λ text. refl) texts

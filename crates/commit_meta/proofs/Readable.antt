@@ -18,16 +18,17 @@ use Rattle.file_names.specs.GroupIds.{group_with_id}
 use Rattle.file_names.proofs.GroupIdLemmas.{has_id}
 use Rattle.file_names.specs.declared.file_name.Action.{Action}
 use Rattle.file_names.specs.declared.file_name.Action.TheVariants as action
-use Rattle.commit_meta.specs.Members.{text_in, number_in, number_32_in, time_in, kind_of_name, kind_in, or_null, all_of, list_in, at_member, only}
+use Rattle.meta_parts.specs.Members.{text_in, number_in, number_32_in, time_in, kind_of_name, kind_in, or_null, all_of, list_in, at_member, only}
 use Rattle.commit_meta.specs.Metadata.{◌>>=◌, required, with_unknown, claims_in, delta_in, compact_in, bases_in, cluster_in, replaced_in, clean_in, cleaned_in, files_for, groups_for, rollback_in, rolled_back_in, empty_in, object_in, members_in, read_object, read_as, known_members}
-use Rattle.commit_meta.specs.Parts.{group_at, group_in, target_at, target_in, written_target_in, file_in, plan_group_in, base_in}
-use Rattle.commit_meta.specs.Texts.{Answers, content_in, IsTarget, IsOfKind, IsWritable}
+use Rattle.meta_parts.specs.Parts.{group_at, group_in, target_at, target_in, written_target_in, file_in, plan_group_in, base_in}
+use Rattle.meta_parts.specs.Parts.{IsTarget}
+use Rattle.commit_meta.specs.Texts.{Answers, content_in, IsOfKind, IsWritable}
 use Rattle.commit_meta.specs.declared.content.Content.{Content}
 use Rattle.commit_meta.specs.declared.content.Content.TheVariants as content
 use Rattle.commit_meta.specs.declared.meta.Meta.{Meta}
 use Rattle.commit_meta.specs.declared.meta.Meta.TheVariants.{Empty, Claims, Rollback}
-use Rattle.commit_meta.specs.declared.meta.BaseMade.{BaseMade}
-use Rattle.commit_meta.specs.declared.meta.PlanGroup.{PlanGroup}
+use Rattle.meta_parts.specs.declared.parts.BaseMade.{BaseMade}
+use Rattle.meta_parts.specs.declared.parts.PlanGroup.{PlanGroup}
 use Rattle.commit_meta.specs.declared.meta.RollbackPlan.{RollbackPlan}
 use Rattle.commit_meta.specs.declared.meta_error.MetaTextError.{MetaTextError}
 

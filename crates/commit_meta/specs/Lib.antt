@@ -1,4 +1,2 @@
-pub mod Members
 pub mod Metadata
-pub mod Parts
 pub mod Texts

@@ -11,8 +11,8 @@ use Rattle.file_names.specs.declared.file_name.Action.{Action}
 use Rattle.file_names.specs.declared.file_name.Action.TheVariants as action
 use Rattle.file_names.specs.declared.file_name.State.{State}
 use Rattle.file_names.specs.declared.file_name.State.TheVariants.{Requested, Inflight, Completed}
-use Rattle.commit_meta.specs.Members.{text_in, number_in, number_32_in, time_in, kind_in, or_null, list_in, at_member}
-use Rattle.commit_meta.specs.Parts.{group_in, target_in, written_target_in, plan_group_in, base_in}
+use Rattle.meta_parts.specs.Members.{text_in, number_in, number_32_in, time_in, kind_in, or_null, list_in, at_member}
+use Rattle.meta_parts.specs.Parts.{group_in, target_in, written_target_in, plan_group_in, base_in}
 use Rattle.commit_meta.specs.declared.content.Content.{Content}
 use Rattle.commit_meta.specs.declared.content.Content.TheVariants as content
 use Rattle.commit_meta.specs.declared.meta.Meta.{Meta}

@@ -5,11 +5,10 @@ use Rattle.serde_json.specs.Data as json
 use Rattle.serde_json.specs.Data.{Data, no_members, member}
 use Rattle.serde_json.specs.Written.{compact_text}
 use Rattle.hudi_base.specs.InstantTime.{IsTime}
-use Rattle.hudi_base.specs.declared.file_group.Target.{Target}
 use Rattle.file_names.specs.FileName.{IsGroup}
 use Rattle.file_names.specs.declared.file_name.Action.{Action}
 use Rattle.file_names.specs.declared.file_name.Action.TheVariants as action
-use Rattle.commit_meta.specs.Parts.{text_json, time_json, kind_json, number_json, list_json, null_or, group_json, target_json, written_target_json, plan_group_json, base_json}
+use Rattle.meta_parts.specs.Parts.{IsTarget, text_json, time_json, kind_json, number_json, list_json, null_or, group_json, target_json, written_target_json, plan_group_json, base_json}
 use Rattle.commit_meta.specs.declared.content.Content.{Content}
 use Rattle.commit_meta.specs.declared.content.Content.TheVariants as content
 use Rattle.commit_meta.specs.declared.meta.Meta.{Meta}
@@ -72,10 +71,6 @@ content_in (Clean plan) = Some content.Clean
 content_in (Cleaned removed) = Some content.Cleaned
 content_in (Rollback plan) = Some content.Rollback
 content_in (RolledBack target) = Some content.RolledBack
-
-pub record IsTarget (target : Target) : Type 0 where
-  pub group : IsGroup target.group
-  pub slice : IsTime target.slice
 
 -- a rollback of a deltacommit, without files, or of a replacecommit, without groups
 abbrev pub IsOfKind : RollbackPlan → Action → Type 0

@@ -6,9 +6,9 @@ ghost use Rattle.commit_meta.specs.Texts.{Answers};
 ghost use Rattle.commit_meta.specs.declared.meta.Meta.{Meta};
 ghost use Rattle.commit_meta.specs.declared.meta_error.MetaTextError.TheVariants.{Memory, BadMeta};
 
-use crate::form::{Form, at_member};
 use crate::{Meta, MetaTextError};
 use hudi_base::Name;
+use meta_parts::{Form, at_member};
 use serde_json::Value;
 use std::alloc::Global;
 

@@ -1,6 +1,7 @@
 // What the files of the timeline hold.
 use file_names::Action;
 use hudi_base::{GroupRef, InstantTime, Name, Sequence, Target};
+use meta_parts::{BaseMade, PlanGroup};
 
 /// What a completed deltacommit did: its checkpoint in the source of its rows, where it has one, and how many writes it
 /// made in each slice.
@@ -10,34 +11,10 @@ pub struct DeltaMeta {
     pub groups: Sequence<(Target, u32)>,
 }
 
-/// A file by its name, and its number of bytes.
-#[derive(Drop)]
-pub struct NamedFile {
-    pub name: Name,
-    pub length: u64,
-}
-
-/// A file group as a plan finds it: its base file, where it has one, and its logs.
-#[derive(Drop)]
-pub struct PlanGroup {
-    pub group: GroupRef,
-    pub base: Option<NamedFile>,
-    pub logs: Sequence<NamedFile>,
-}
-
 /// What a compaction is to do: the groups, with the files that it reads.
 #[derive(Drop)]
 pub struct CompactPlan {
     pub groups: Sequence<PlanGroup>,
-}
-
-/// A base file that was made: its group, its name, its number of bytes and its number of rows.
-#[derive(Drop)]
-pub struct BaseMade {
-    pub group: GroupRef,
-    pub name: Name,
-    pub length: u64,
-    pub rows: u64,
 }
 
 /// What a completed compaction did: the base files that it made.

@@ -6,7 +6,6 @@ ghost use Rattle.commit_meta.specs.Metadata.{content_of, claims_in, delta_in, co
 ghost use Rattle.commit_meta.specs.Texts.{Answers, content_in, IsWritable};
 
 use crate::content::{Content, content_of, known_members};
-use crate::form::at_member;
 use crate::members::{bad, required, with_unknown};
 use crate::{
     BasesMeta, CleanPlan, ClusterPlan, CompactPlan, DeltaMeta, Meta, MetaTextError, ReplacedMeta,
@@ -14,6 +13,7 @@ use crate::{
 };
 use file_names::{Action, State};
 use hudi_base::{Name, Sequence, Target};
+use meta_parts::at_member;
 use serde_json::Value;
 use std::alloc::Global;
 use table_forms::{least_unknown, parse_json};

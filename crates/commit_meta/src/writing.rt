@@ -8,12 +8,12 @@ ghost use Rattle.commit_meta.specs.Texts.{meta_json, meta_bytes, content_in, IsW
 ghost use Rattle.commit_meta.specs.declared.meta.Meta.TheVariants.{Claims, Delta, Compact, Bases, Cluster, Replaced, Clean, Cleaned, Rollback, RolledBack};
 ghost use Rattle.commit_meta.specs.declared.meta_error.MetaTextError.TheVariants.{Memory};
 
-use crate::form::Form;
 use crate::{
     BasesMeta, CleanPlan, ClusterPlan, CompactPlan, DeltaMeta, Meta, MetaTextError, ReplacedMeta,
     RollbackPlan,
 };
 use hudi_base::{Bytes, InstantTime, Name, Sequence, Target};
+use meta_parts::Form;
 use serde_json::{Value, json};
 use std::alloc::{AllocError, Global};
 

@@ -1,8 +1,8 @@
 use Rattle.std.proofs.Common.{sym, ◌∙◌}
 use Rattle.std.proofs.lemmas.Result.{IfOk-weaker}
-use Rattle.commit_meta.specs.Parts.{target_in, target_at}
-use Rattle.commit_meta.proofs.Objects.{only_known, only_unknown}
-use Rattle.commit_meta.proofs.groups.TargetForm.read.Goals as goal
+use Rattle.meta_parts.specs.Parts.{target_in, target_at}
+use Rattle.meta_parts.proofs.Objects.{only_known, only_unknown}
+use Rattle.meta_parts.proofs.groups.TargetForm.read.Goals as goal
 
 pub returns-then-has_only : goal.returns-then-has_only
 unfolding target_in

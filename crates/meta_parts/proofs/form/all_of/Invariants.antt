@@ -1,8 +1,8 @@
 use Rattle.std.proofs.Common.{◌≡◌, drop}
 use Rattle.serde_json.specs.View.{items_view}
-use Rattle.commit_meta.specs.Members.{all_of}
-use Rattle.commit_meta.proofs.ListLemmas.{all_from}
-use Rattle.commit_meta.proofs.form.all_of.Given as goal
+use Rattle.meta_parts.specs.Members.{all_of}
+use Rattle.meta_parts.proofs.ListLemmas.{all_from}
+use Rattle.meta_parts.proofs.form.all_of.Given as goal
 
 -- the values so far and those that follow
 abbrev pub invariant-loop-value : goal.invariant-loop-value

@@ -1,7 +1,7 @@
 -- Reading the items of an array one after another, as a loop does.
 use Rattle.std.proofs.Common.{List, ◌++◌, Option, option_map}
 use Rattle.serde_json.specs.Data.{Data, Items}
-use Rattle.commit_meta.specs.Members.{all_of}
+use Rattle.meta_parts.specs.Members.{all_of}
 
 -- the values that were found, and those of the items that are left
 abbrev pub all_from : {A : Type 0} → (Data → Option A) → List A → Items → Option (List A)

@@ -2,7 +2,7 @@
 ghost use Rattle.std.specs.Prelude.{◌≡◌, IfOk, is_none, map, string_bytes};
 ghost use Rattle.serde_json.specs.View.{view};
 ghost use Rattle.table_forms.specs.JsonObjects.{least_unknown};
-ghost use Rattle.commit_meta.specs.Parts.{group_at, group_in, target_at, target_in, written_target_in, id_json, group_json, target_json, written_target_json};
+ghost use Rattle.meta_parts.specs.Parts.{group_at, group_in, target_at, target_in, written_target_in, id_json, group_json, target_json, written_target_json};
 
 use crate::form::{Form, at_member};
 use file_names::{file_id, group_with_id};

@@ -1,7 +1,7 @@
 // Files, and groups with their files, as JSON.
 ghost use Rattle.std.specs.Prelude.{◌≡◌, IfOk};
 ghost use Rattle.serde_json.specs.View.{view};
-ghost use Rattle.commit_meta.specs.Parts.{file_in, plan_group_in, base_in, file_json, plan_group_json, base_json};
+ghost use Rattle.meta_parts.specs.Parts.{file_in, plan_group_in, base_in, file_json, plan_group_json, base_json};
 
 use crate::form::{Form, at_member};
 use crate::groups::{group_at, has_only, id_json};

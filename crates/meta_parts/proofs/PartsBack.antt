@@ -13,12 +13,12 @@ use Rattle.serde_json.specs.Written.{has_float, items_have_float}
 use Rattle.table_forms.specs.JsonObjects.{least_unknown}
 use Rattle.file_names.specs.FileName.{IsGroup}
 use Rattle.file_names.proofs.GroupIdLemmas.{group_with_id-file_id}
-use Rattle.commit_meta.specs.Members.{text_in, number_in, number_32_in, time_in, or_null, all_of}
-use Rattle.commit_meta.specs.Parts.{group_at, group_in, target_at, target_in, written_target_in, file_in, plan_group_in, base_in, text_json, number_json, time_json, null_or, group_json, target_json, written_target_json, file_json, plan_group_json, base_json}
-use Rattle.commit_meta.specs.Texts.{IsTarget}
-use Rattle.commit_meta.specs.declared.meta.NamedFile.{NamedFile}
-use Rattle.commit_meta.specs.declared.meta.PlanGroup.{PlanGroup}
-use Rattle.commit_meta.specs.declared.meta.BaseMade.{BaseMade}
+use Rattle.meta_parts.specs.Members.{text_in, number_in, number_32_in, time_in, or_null, all_of}
+use Rattle.meta_parts.specs.Parts.{group_at, group_in, target_at, target_in, written_target_in, file_in, plan_group_in, base_in, text_json, number_json, time_json, null_or, group_json, target_json, written_target_json, file_json, plan_group_json, base_json}
+use Rattle.meta_parts.specs.Parts.{IsTarget}
+use Rattle.meta_parts.specs.declared.parts.NamedFile.{NamedFile}
+use Rattle.meta_parts.specs.declared.parts.PlanGroup.{PlanGroup}
+use Rattle.meta_parts.specs.declared.parts.BaseMade.{BaseMade}
 
 -- ---- lists
 

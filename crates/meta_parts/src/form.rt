@@ -2,30 +2,31 @@
 ghost use Rattle.std.specs.Prelude.{◌≡◌, List, ℕ, Option, IfOk};
 ghost use Rattle.serde_json.specs.Data.{Data};
 ghost use Rattle.serde_json.specs.View.{view, items_view};
-ghost use Rattle.commit_meta.specs.Members.{at_member, all_of, list_in};
-ghost use Rattle.commit_meta.specs.Parts.{list_json};
+ghost use Rattle.meta_parts.specs.Members.{at_member, all_of, list_in};
+ghost use Rattle.meta_parts.specs.Parts.{list_json};
 
 use hudi_base::{Name, Sequence};
 use serde_json::Value;
 use std::alloc::{AllocError, Global};
 
-// A value with a form in JSON, which the table's name may be a part of. The only error is want of memory.
-pub(crate) trait Form: Drop {
-    // What a JSON value is read as.
+/// A value with a form in JSON, which the table's name may be a part of: `reads` is what a JSON value is read as, and
+/// `writes` what the value is written as. The only error is want of memory.
+pub trait Form: Drop {
     ghost reads: { List ℕ → Data → Option Self };
 
-    // What the value is written as.
     ghost writes: { List ℕ → Self → Data };
 
+    /// The value that is read; none where the JSON value has another form.
     fn read(alloc: Global, table: &Name, value: &Value) -> Result<Option<Self>, AllocError>
         ensures { IfOk result (λ found. found ≡ reads table.now (view value.now)) };
 
+    /// The value as JSON.
     fn to_json(&self, alloc: Global, table: &Name) -> Result<Value, AllocError>
         ensures { IfOk result (λ value. view value ≡ writes table.now self.now) };
 }
 
-// The value of a member of an object.
-pub(crate) fn at_member<T: Form>(
+/// The value of a member of an object; none where the object lacks it, or it has another form.
+pub fn at_member<T: Form>(
     alloc: Global,
     table: &Name,
     name: &str,

@@ -1,7 +1,7 @@
 use Rattle.std.proofs.Common.{sym, ◌∙◌}
-use Rattle.commit_meta.specs.Parts.{written_target_in}
-use Rattle.commit_meta.proofs.Objects.{only_known, only_unknown, written_found}
-use Rattle.commit_meta.proofs.groups.Tuple2TargetU32Form.read.Goals as goal
+use Rattle.meta_parts.specs.Parts.{written_target_in}
+use Rattle.meta_parts.proofs.Objects.{only_known, only_unknown, written_found}
+use Rattle.meta_parts.proofs.groups.Tuple2TargetU32Form.read.Goals as goal
 
 pub returns-then-not-has_only : goal.returns-then-not-has_only
 unfolding written_target_in

@@ -1,19 +1,19 @@
 -- The objects inside metadata, each with exactly the members of its equation. `table` is the table's name.
 use Rattle.std.specs.Prelude.{ℕ, List, [], ◌∷◌, map, Option, Some, None, codes}
-use Rattle.hudi_base.specs.InstantTime.{time_text}
+use Rattle.hudi_base.specs.InstantTime.{IsTime, time_text}
 use Rattle.hudi_base.specs.declared.file_group.GroupRef.{GroupRef}
 use Rattle.hudi_base.specs.declared.file_group.Target.{Target}
 use Rattle.serde_json.specs.Data as json
 use Rattle.serde_json.specs.Data.{Data, Members, no_members, member, unsigned}
 use Rattle.serde_json.specs.View.{items_of}
 use Rattle.file_names.specs.FileId.{file_id}
-use Rattle.file_names.specs.FileName.{action_name}
+use Rattle.file_names.specs.FileName.{IsGroup, action_name}
 use Rattle.file_names.specs.GroupIds.{group_with_id}
 use Rattle.file_names.specs.declared.file_name.Action.{Action}
-use Rattle.commit_meta.specs.Members.{◌>>=◌, text_in, number_in, number_32_in, time_in, list_in, or_null, at_member, only}
-use Rattle.commit_meta.specs.declared.meta.NamedFile.{NamedFile}
-use Rattle.commit_meta.specs.declared.meta.PlanGroup.{PlanGroup}
-use Rattle.commit_meta.specs.declared.meta.BaseMade.{BaseMade}
+use Rattle.meta_parts.specs.Members.{◌>>=◌, text_in, number_in, number_32_in, time_in, list_in, or_null, at_member, only}
+use Rattle.meta_parts.specs.declared.parts.NamedFile.{NamedFile}
+use Rattle.meta_parts.specs.declared.parts.PlanGroup.{PlanGroup}
+use Rattle.meta_parts.specs.declared.parts.BaseMade.{BaseMade}
 
 -- ---- read
 
@@ -131,3 +131,9 @@ base_json table base = json.object (
     member (codes "name") (json.string base.name) (
     member (codes "partition") (json.string base.group.partition) (
     member (codes "rows") (number_json base.rows) no_members)))))
+
+-- ---- which slices have a written form
+
+pub record IsTarget (target : Target) : Type 0 where
+  pub group : IsGroup target.group
+  pub slice : IsTime target.slice

@@ -5,8 +5,8 @@ use Rattle.std.proofs.lemmas.Bool.{cond-true, cond-false}
 use Rattle.hudi_base.specs.declared.file_group.Target.{Target}
 use Rattle.serde_json.specs.Data.{Data}
 use Rattle.table_forms.specs.JsonObjects.{least_unknown}
-use Rattle.commit_meta.specs.Members.{◌>>=◌, number_32_in, at_member, only}
-use Rattle.commit_meta.specs.Parts.{target_at}
+use Rattle.meta_parts.specs.Members.{◌>>=◌, number_32_in, at_member, only}
+use Rattle.meta_parts.specs.Parts.{target_at}
 
 pub only_known : {A : Type 0} (known : List (List ℕ)) (d : Data) (found : Option A) → is_none (least_unknown known d) ≡ true → only known d found ≡ found
 only_known known d found e = cond-true (is_none (least_unknown known d)) found None e
