@@ -12,7 +12,7 @@ use Rattle.table_jobs.specs.Replies.{IsTold, told}
 use Rattle.table_query.specs.Answers.{HasLeft, IsAnswer, IsMadeOf, IsQueryReply, reply_with}
 use Rattle.table_query.specs.GroupReading.{TableReading, view_writes}
 use Rattle.table_query.specs.Parts.{text_at}
-use Rattle.table_query.specs.ReadBytes.{IsReadWhole, bytes_read, pinned}
+use Rattle.table_query.specs.ReadBytes.{PinsAt, IsReadWhole, bytes_read, pinned}
 use Rattle.table_query.specs.Reading.{still_to_read}
 use Rattle.table_query.specs.Snapshots.{HasTexts, MakesReply}
 use Rattle.table_query.proofs.Same.{view_same}
@@ -64,12 +64,13 @@ left : (p : Phase) → p ≡ Ended → HasLeft p
 left p is = let P : Phase → Type 0 = HasLeft in subst P (sym is) tt
 
 -- what was read makes the answer
-pub answered : (reading : TableReading) (view : View) (mine : List Entry) (texts : List (List ℕ)) (given : JobReply) → told mine ≡ None → pinned mine ≡ Some view
-    → ((k : ℕ) → bytes_read mine k ≡ text_at texts k) → HasTexts view texts → phase mine ≡ Ended → MakesReply reading view (text_at texts) given → IsQueryReply reading mine given
-answered reading view mine texts given untold view_is same long ended makes =
+pub answered : (reading : TableReading) (at : Option ℕ) (view : View) (mine : List Entry) (texts : List (List ℕ)) (given : JobReply) → told mine ≡ None → pinned mine ≡ Some view
+    → ((k : ℕ) → bytes_read mine k ≡ text_at texts k) → HasTexts view texts → phase mine ≡ Ended → PinsAt at mine → MakesReply reading view (text_at texts) given → IsQueryReply reading at mine given
+answered reading at view mine texts given untold view_is same long ended pins makes =
     let P : Option JobReply → Type 0 = λ t. IsAnswer reading t (pinned mine) (bytes_read mine) given in
     let Q : Option View → Type 0 = λ v. IsAnswer reading None v (bytes_read mine) given in
     record {
+      pins = pins;
       answer = subst P (sym untold) (subst Q (sym view_is) (made reading view texts (bytes_read mine) given long same makes));
       left = left (phase mine) ended;
     }
@@ -80,5 +81,5 @@ told_answer reading None None bytes given is = is
 told_answer reading None (Some view) bytes given is = let P : JobReply → Type 0 = IsMadeOf reading view bytes in subst P (sym is) tt
 
 -- a step told the answer, or memory was wanting
-pub failed : (reading : TableReading) (mine : List Entry) (given : JobReply) → IsTold (told mine) given → phase mine ≡ Ended → IsQueryReply reading mine given
-failed reading mine given is ended = record { answer = told_answer reading (told mine) (pinned mine) (bytes_read mine) given is; left = left (phase mine) ended }
+pub failed : (reading : TableReading) (at : Option ℕ) (mine : List Entry) (given : JobReply) → IsTold (told mine) given → phase mine ≡ Ended → PinsAt at mine → IsQueryReply reading at mine given
+failed reading at mine given is ended pins = record { pins = pins; answer = told_answer reading (told mine) (pinned mine) (bytes_read mine) given is; left = left (phase mine) ended }

@@ -10,7 +10,7 @@ use Rattle.table_history.specs.declared.entry.Entry.{Entry}
 use Rattle.table_history.specs.declared.view.View.{View}
 use Rattle.table_jobs.specs.Replies.{told}
 use Rattle.table_query.specs.GroupReading.{Damage, TableReading, view_writes}
-use Rattle.table_query.specs.ReadBytes.{IsReadWhole, bytes_read, pinned}
+use Rattle.table_query.specs.ReadBytes.{PinsAt, IsReadWhole, bytes_read, pinned}
 
 -- the rows that the writes leave, or the damage
 abbrev pub reply_with : Option ℕ → Result (List Write) Damage → JobReply
@@ -35,6 +35,7 @@ HasLeft Fresh = Unit {0}
 HasLeft Ended = Unit {0}
 HasLeft _ = ⊥
 
-pub record IsQueryReply (reading : TableReading) (mine : List Entry) (given : JobReply) : Type 0 where
+pub record IsQueryReply (reading : TableReading) (at : Option ℕ) (mine : List Entry) (given : JobReply) : Type 0 where
+  pub pins : PinsAt at mine
   pub answer : IsAnswer reading (told mine) (pinned mine) (bytes_read mine) given
   pub left : HasLeft (phase mine)

@@ -1,11 +1,11 @@
 -- What a query has pinned and read, by its own entries, of which the last comes first.
-use Rattle.std.specs.Prelude.{◌≡◌, ℕ, ◌==◌, if◌then◌else◌, List, [], ◌∷◌, ◌++◌, length, Option, Some, None}
+use Rattle.std.specs.Prelude.{◌≡◌, false, ℕ, ◌==◌, if◌then◌else◌, List, [], ◌∷◌, ◌++◌, length, Option, Some, None}
 use Rattle.table_history.specs.Pins.{part_at}
 use Rattle.table_history.specs.declared.entry.Entry.{Entry}
 use Rattle.table_history.specs.declared.reply.Reply.{Reply}
 use Rattle.table_history.specs.declared.reply.Reply.TheVariants.{Piece, Pinned}
 use Rattle.table_history.specs.declared.step.Step.{Step}
-use Rattle.table_history.specs.declared.step.Step.TheVariants.{Read}
+use Rattle.table_history.specs.declared.step.Step.TheVariants.{Pin, Read}
 use Rattle.table_history.specs.declared.view.Part.{Part}
 use Rattle.table_history.specs.declared.view.View.{View}
 
@@ -26,6 +26,15 @@ pinned (e ∷ es) = by e.reply (pinned es)
     by : Reply → Option View → Option View
     by (Pinned view) before = Some view
     by _ before = before
+
+-- a pin is at this instant, of the latest where none is named, and of all files
+abbrev pub IsPinAt : Option ℕ → Step → Type 0
+IsPinAt at (Pin asked bases_only) = (asked ≡ at) × (bases_only ≡ false)
+IsPinAt at _ = Unit {0}
+
+abbrev pub PinsAt : Option ℕ → List Entry → Type 0
+PinsAt at [] = Unit {0}
+PinsAt at (e ∷ es) = IsPinAt at e.step × PinsAt at es
 
 -- each file of the view was read to its end
 abbrev pub IsReadWhole : View → (ℕ → List ℕ) → Type 0

@@ -1,5 +1,5 @@
 -- How a query's own entries stand while it reads. Only private clauses cite this.
-use Rattle.std.specs.Prelude.{◌≡◌, ◌≢◌, ℕ, ◌+◌, ◌==◌, if◌then◌else◌, List, [], ◌∷◌, ◌++◌, length, drop, take, map, slice_index, None}
+use Rattle.std.specs.Prelude.{◌≡◌, ◌≢◌, ℕ, ◌+◌, ◌==◌, if◌then◌else◌, List, [], ◌∷◌, ◌++◌, length, drop, take, map, slice_index, None, Option}
 use Rattle.table_core.specs.declared.job_reply.JobReply.{JobReply}
 use Rattle.table_history.specs.JobLaw.{Phase, Reads, Leaves, next_phase, phase, after_piece}
 use Rattle.table_history.specs.declared.entry.Entry.{Entry}
@@ -8,7 +8,7 @@ use Rattle.table_history.specs.declared.step.Reader.TheVariants as reader
 use Rattle.table_history.specs.declared.step.Step.TheVariants.{Read}
 use Rattle.table_jobs.specs.Replies.{IsTold, told}
 use Rattle.table_query.specs.Parts.{text_at}
-use Rattle.table_query.specs.ReadBytes.{bytes_read, pinned}
+use Rattle.table_query.specs.ReadBytes.{PinsAt, bytes_read, pinned}
 
 -- the files of these lengths that aren't empty, numbered from here on
 abbrev pub still_to_read : ℕ → List ℕ → List (ℕ × ℕ)
@@ -50,6 +50,7 @@ pub record HasRead (file size : ℕ) (before after : List Entry) (bytes : List �
 
 -- what steps that read this file leave as it was
 pub record LeavesOthers (file : ℕ) (before after : List Entry) : Type 0 where
+  pub pins : (at : Option ℕ) → PinsAt at before → PinsAt at after
   pub view : pinned after ≡ pinned before
   pub others : (k : ℕ) → k ≢ file → bytes_read after k ≡ bytes_read before k
 

@@ -1,5 +1,5 @@
 -- How a snapshot's own entries stand, for its parts. Only private clauses cite this.
-use Rattle.std.specs.Prelude.{◌≡◌, ℕ, List, [], length, map, Some, None}
+use Rattle.std.specs.Prelude.{◌≡◌, ℕ, List, [], length, map, Some, None, Option}
 use Rattle.table_core.specs.declared.job_reply.JobReply.{JobReply}
 use Rattle.table_core.specs.declared.job_reply.JobReply.TheVariants as job
 use Rattle.table_history.specs.JobLaw.{Reads, Ended, files_to_read, phase}
@@ -10,7 +10,7 @@ use Rattle.table_jobs.specs.Replies.{told}
 use Rattle.table_query.specs.Answers.{reply_with}
 use Rattle.table_query.specs.GroupReading.{TableReading, view_writes}
 use Rattle.table_query.specs.Parts.{text_at}
-use Rattle.table_query.specs.ReadBytes.{bytes_read, pinned}
+use Rattle.table_query.specs.ReadBytes.{PinsAt, bytes_read, pinned}
 use Rattle.table_query.specs.Reading.{MayLeave}
 
 -- the view is pinned, and nothing is read yet
@@ -34,6 +34,7 @@ pub record HasReadView (view : View) (mine : List Entry) (texts : List (List ℕ
 
 -- the pin is gone, and nothing else
 pub record HasUnpinned (before after : List Entry) : Type 0 where
+  pub pins : (at : Option ℕ) → PinsAt at before → PinsAt at after
   pub phase : phase after ≡ Ended
   pub told : told after ≡ told before
   pub view_is : pinned after ≡ pinned before

@@ -1,11 +1,11 @@
 // Reading the files of a view.
-ghost use Rattle.std.specs.Prelude.{◌≡◌, ◌<◌, ◌++◌, [], None, length, drop, map, IfOk, OnOk, MatchResult};
+ghost use Rattle.std.specs.Prelude.{◌≡◌, ℕ, Option, ◌<◌, ◌++◌, [], None, length, drop, map, IfOk, OnOk, MatchResult};
 ghost use Rattle.std.specs.List.{flat_map};
 ghost use Rattle.table_history.specs.JobLaw.{Allows, GoesOn, Reads, entries_of, phase};
 ghost use Rattle.table_history.specs.declared.step.Reader.TheVariants.{Pin};
 ghost use Rattle.table_history.specs.declared.step.Step.TheVariants.{Read};
 ghost use Rattle.table_jobs.specs.Replies.{told};
-ghost use Rattle.table_query.specs.ReadBytes.{bytes_read, pinned};
+ghost use Rattle.table_query.specs.ReadBytes.{PinsAt, pinned};
 ghost use Rattle.table_query.specs.Reading.{GotPiece, HasFailed, HasRead, HasReadNext, HasReadUpTo, IsNext, LeavesOthers, still_to_read};
 
 use hudi_base::Bytes;
@@ -124,6 +124,7 @@ pub(crate) fn read_all<T: Steps>(
     requires so_far { HasReadUpTo pin 0 sizes.now (entries_of (T.mine steps.old)) [] }
     ensures job { T.job steps.new ≡ T.job steps.old }
     ensures seen { GoesOn (T.seen steps.old) (T.seen steps.new) }
+    ensures pins { (at : Option ℕ) → PinsAt at (entries_of (T.mine steps.old)) → PinsAt at (entries_of (T.mine steps.new)) }
     ensures view { pinned (entries_of (T.mine steps.new)) ≡ pinned (entries_of (T.mine steps.old)) }
     ensures read { MatchResult result
         (λ texts. HasReadUpTo pin (length sizes.now) sizes.now (entries_of (T.mine steps.new)) texts.items)

@@ -1,9 +1,10 @@
 // The snapshot.
-ghost use Rattle.std.specs.Prelude.{◌≡◌, [], MatchResult};
+ghost use Rattle.std.specs.Prelude.{◌≡◌, ℕ, [], Option, MatchResult};
 ghost use Rattle.table_history.specs.JobLaw.{GoesOn, entries_of, phase};
 ghost use Rattle.table_query.specs.Answers.{IsQueryReply};
 ghost use Rattle.table_query.specs.GroupReading.{TableReading};
 ghost use Rattle.table_query.specs.Parts.{text_at};
+ghost use Rattle.table_query.specs.ReadBytes.{PinsAt};
 ghost use Rattle.table_query.specs.Reading.{HasFailed, MayLeave};
 ghost use Rattle.table_query.specs.Snapshots.{HasPinned, HasReadView, HasTexts, HasUnpinned, MakesReply};
 
@@ -20,8 +21,9 @@ fn pin<T: Steps>(steps: &mut T, at: Option<InstantTime>) -> Result<View, JobRepl
     requires { T.mine steps.old ≡ [] }
     ensures job { T.job steps.new ≡ T.job steps.old }
     ensures seen { GoesOn (T.seen steps.old) (T.seen steps.new) }
+    ensures pins { PinsAt at (entries_of (T.mine steps.new)) }
     ensures view { MatchResult result (λ view. HasPinned view (entries_of (T.mine steps.new)))
-        (λ reply. (reading : TableReading) → IsQueryReply reading (entries_of (T.mine steps.new)) reply) }
+        (λ reply. (reading : TableReading) → IsQueryReply reading at (entries_of (T.mine steps.new)) reply) }
 {
     match steps.apply(Step::Pin {
         at,
@@ -54,6 +56,7 @@ fn read_view<T: Steps>(alloc: Global, steps: &mut T, view: &View) -> Result<Vec<
     requires { HasPinned view.now (entries_of (T.mine steps.old)) }
     ensures job { T.job steps.new ≡ T.job steps.old }
     ensures seen { GoesOn (T.seen steps.old) (T.seen steps.new) }
+    ensures pins { (at : Option ℕ) → PinsAt at (entries_of (T.mine steps.old)) → PinsAt at (entries_of (T.mine steps.new)) }
     ensures read { MatchResult result (λ texts. HasReadView view.now (entries_of (T.mine steps.new)) texts.items)
         (λ reply. HasFailed view.now.pin (entries_of (T.mine steps.new)) reply) }
 {
@@ -91,8 +94,9 @@ pub fn snapshot<T: Steps, K: TableCodec, G: Gate>(
     requires { T.mine steps.old ≡ [] }
     ensures job { T.job steps.new ≡ T.job steps.old }
     ensures seen { GoesOn (T.seen steps.old) (T.seen steps.new) }
-    // The answer is told by the job's own entries, or made of the bytes that they read, and the pin is gone.
-    ensures answer { IsQueryReply (record { rows = K.block_rows codec.now; table = K.table_name codec.now }) (entries_of (T.mine steps.new)) result }
+    // The pin is at this instant. The answer is told by the job's own entries, or made of the bytes that they read, and the
+    // pin is gone.
+    ensures answer { IsQueryReply (record { rows = K.block_rows codec.now; table = K.table_name codec.now }) at (entries_of (T.mine steps.new)) result }
 {
     let view = match pin(steps, at) {
         Ok(view) => view,

@@ -23,6 +23,7 @@ loop-number-preserved g c =
     record {
       job = c.read_next.ensures.job ∙ before.job;
       seen = goes_on _ _ _ before.seen c.read_next.ensures.seen;
+      pins = λ at pinned. c.read_next.ensures.leaves.pins at (before.pins at pinned);
       view = c.read_next.ensures.leaves.view ∙ before.view;
       read = record {
         phase = next.phase;
@@ -32,3 +33,9 @@ loop-number-preserved g c =
         sizes_are = ap (map length) pushed ∙ one_size_more texts text c.args.sizes.now c.loop-number.number c.loop-number-test.true before.read.sizes_are next.long;
       };
     }
+
+pub returns-in-Err-clause-pins : goal.returns-in-Err-clause-pins
+returns-in-Err-clause-pins g c = λ at pinned. c.read_next.ensures.leaves.pins at (c.loop-number.invariant.pins at pinned)
+
+pub returns-in_default-clause-pins : goal.returns-in_default-clause-pins
+returns-in_default-clause-pins g c = λ at pinned. c.read_next.ensures.leaves.pins at (c.loop-number.invariant.pins at pinned)

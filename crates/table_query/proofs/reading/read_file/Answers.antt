@@ -20,6 +20,7 @@ loop-at-preserved g c =
       job = c.read_piece.ensures.job ∙ before.job;
       seen = goes_on _ _ _ before.seen c.read_piece.ensures.seen;
       leaves = record {
+        pins = λ at pinned. c.read_piece.ensures.leaves.pins at (before.leaves.pins at pinned);
         view = c.read_piece.ensures.leaves.view ∙ before.leaves.view;
         others = λ k other. c.read_piece.ensures.leaves.others k other ∙ before.leaves.others k other;
       };
@@ -29,4 +30,24 @@ loop-at-preserved g c =
           ∙ ap (λ (xs : List ℕ). bytes_read (entries_of (g.T.Steps.mine c.args.steps.now)) c.args.file ++ xs) (sym added);
       long = ap length added ∙ length-append bytes some ∙ (omega (arith, so_long, piece_long));
       within = omega (arith, len, left);
+    }
+
+pub returns-in-Err-clause-leaves : goal.returns-in-Err-clause-leaves
+returns-in-Err-clause-leaves g c =
+    let before = c.loop-at.invariant.leaves in
+    let piece = c.read_piece.ensures.leaves in
+    record {
+      pins = λ at pinned. piece.pins at (before.pins at pinned);
+      view = piece.view ∙ before.view;
+      others = λ k other. piece.others k other ∙ before.others k other;
+    }
+
+pub returns-in_default-clause-leaves : goal.returns-in_default-clause-leaves
+returns-in_default-clause-leaves g c =
+    let before = c.loop-at.invariant.leaves in
+    let piece = c.read_piece.ensures.leaves in
+    record {
+      pins = λ at pinned. piece.pins at (before.pins at pinned);
+      view = piece.view ∙ before.view;
+      others = λ k other. piece.others k other ∙ before.others k other;
     }
