@@ -1,7 +1,9 @@
-//! Tests of `block_contents` and `row_values`: contents of delete blocks, and rows that come in as JSON, with their
-//! refusals, as tables.
+//! Tests of `block_contents`, `row_values` and `row_bodies`: contents of delete blocks, rows that come in as JSON, and
+//! cells of bodies, with their refusals, as tables.
 #![tactic(auto)]
 
+#[cfg(test)]
+mod bodies;
 #[cfg(test)]
 mod deletes;
 #[cfg(test)]
