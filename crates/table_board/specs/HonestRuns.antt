@@ -26,8 +26,8 @@ files_then first done operations = changed_all first (take done operations)
 
 -- The store is honest and tells its files and its operations; and when so many of these were done, its files stood for
 -- the table, which was just opened.
-pub record Stood (is_honest : Type 0) (told : Told) (A : Table) (done : ℕ) (first : FileMap) (operations : List Operation)
-    : Type 0 where
+pub record Stood (is_honest : Type 0) (told : Told) (A : Table) (done : ℕ) (first : FileMap)
+    (operations : List Operation) : Type 0 where
   pub honest : is_honest
   pub tells_files : IsSome told.files
   pub tells_operations : told.operations ≡ Some operations
@@ -79,8 +79,8 @@ WhereStood honest told origin Holds =
 -- How the entries came about: a run that has them, whose operations are those since the board was made, in order; and
 -- every image that a stop leaves at or within any of these stands for the table after the entries up to it, or with the
 -- step under way, failed or done whole.
-pub record StandsThroughout (work : Work) (A : Table) (first : FileMap) (done : ℕ) (operations : List Operation) (H : History)
-    : Type 0 where
+pub record StandsThroughout (work : Work) (A : Table) (first : FileMap) (done : ℕ) (operations : List Operation)
+    (H : History) : Type 0 where
   pub run : Run
   pub entries : history_of run ≡ H
   pub legal : IsRun work A (files_then first done operations) run

@@ -22,8 +22,8 @@ pub record ToldLater (honest : Type 0) (old new : Told) : Type 0 where
   pub files : is_some new.files ≡ is_some old.files
   pub operations : honest → DoesMore old.operations new.operations
 
--- A later state of a board: it was made of the same, its store is as honest as it was and has done more, and neither the
--- count of faults nor the greatest answer of the clock fell.
+-- A later state of a board: it was made of the same, its store is as honest as it was and has done more, and neither
+-- the count of faults nor the greatest answer of the clock fell.
 pub record IsLater (from to : Origin) (was_honest is_honest : Type 0) (old new : StoreState) (before after : ClockState)
     : Type 0 where
   pub origin : to ≡ from

@@ -15,7 +15,8 @@ use Rattle.table_board.specs.Boards.{Origin}
 use Rattle.table_board.specs.Later.{AddsOwn, DoesMore, IsLater, IsLaterSolo, ToldLater}
 
 pub told_itself : (honest : Type 0) (told : Told) → ToldLater honest told told
-told_itself honest told = record { first = refl; files = refl; operations = λ h operations is. ([], is ∙ ap Some (sym (append-nil operations))) }
+told_itself honest told =
+    record { first = refl; files = refl; operations = λ h operations is. ([], is ∙ ap Some (sym (append-nil operations))) }
 
 does_on : (a b c : Option (List Operation)) → DoesMore a b → DoesMore b c → DoesMore a c
 does_on a b c more then operations is =
@@ -26,11 +27,19 @@ does_on a b c more then operations is =
 most_on : (a b c : ℤ) → a ≤ℤ b → b ≤ℤ c → a ≤ℤ c
 most_on a b c one two = omega (arith, ints, one, two)
 
-pub later_itself : (from : Origin) (honest : Type 0) (store : StoreState) (clock : ClockState) → IsLater from from honest honest store store clock clock
+pub later_itself : (from : Origin) (honest : Type 0) (store : StoreState) (clock : ClockState)
+    → IsLater from from honest honest store store clock clock
 later_itself from honest store clock =
-    record { origin = refl; honest = (λ h. h, λ h. h); told = told_itself honest store.told; faults = omega arith; most = ≤ℤ_refl clock.most }
+    record {
+      origin = refl;
+      honest = (λ h. h, λ h. h);
+      told = told_itself honest store.told;
+      faults = omega arith;
+      most = ≤ℤ_refl clock.most;
+    }
 
-pub later_on : (from to last : Origin) (was then is : Type 0) (old mid new : StoreState) (before between after : ClockState) → IsLater from to was then old mid before between
+pub later_on : (from to last : Origin) (was then is : Type 0) (old mid new : StoreState) (before between after : ClockState)
+    → IsLater from to was then old mid before between
     → IsLater to last then is mid new between after → IsLater from last was is old new before after
 later_on from to last was then is old mid new before between after one two =
     let a = one.faults in
@@ -41,7 +50,9 @@ later_on from to last was then is old mid new before between after one two =
       told = record {
         first = two.told.first ∙ one.told.first;
         files = two.told.files ∙ one.told.files;
-        operations = λ h. does_on old.told.operations mid.told.operations new.told.operations (one.told.operations h) (two.told.operations (one.honest.0 h));
+        operations = λ h.
+            does_on old.told.operations mid.told.operations new.told.operations (one.told.operations h)
+            (two.told.operations (one.honest.0 h));
       };
       faults = omega (arith, a, b);
       most = most_on before.most between.most after.most one.most two.most;
@@ -49,7 +60,8 @@ later_on from to last was then is old mid new before between after one two =
 
 -- ---- one job's steps
 
-all_own : (job : Job) (es fs : List Entry) → AllByRecursion (λ e. e.job ≡ job) es → AllByRecursion (λ e. e.job ≡ job) fs → AllByRecursion (λ e. e.job ≡ job) (es ++ fs)
+all_own : (job : Job) (es fs : List Entry) → AllByRecursion (λ e. e.job ≡ job) es → AllByRecursion (λ e. e.job ≡ job) fs
+    → AllByRecursion (λ e. e.job ≡ job) (es ++ fs)
 all_own job [] fs own more = more
 all_own job (e ∷ es) fs own more = (own.0, all_own job es fs own.1 more)
 
@@ -61,9 +73,11 @@ adds_on job a b c one two = record {
 }
 
 pub alone_itself : (job : Job) (H : History) (Later : Type 0) → Later → IsLaterSolo job job H H Later
-alone_itself job H Later board = record { job_is = refl; adds = record { mine = []; are = refl; own = tt }; board = board }
+alone_itself job H Later board =
+    record { job_is = refl; adds = record { mine = []; are = refl; own = tt }; board = board }
 
-pub alone_on : (job same last : Job) (a b c : History) (First Second Both : Type 0) → (First → Second → Both) → IsLaterSolo job same a b First → IsLaterSolo same last b c Second
+pub alone_on : (job same last : Job) (a b c : History) (First Second Both : Type 0) → (First → Second → Both)
+    → IsLaterSolo job same a b First → IsLaterSolo same last b c Second
     → IsLaterSolo job last a c Both
 alone_on job same last a b c First Second Both boards one two = record {
   job_is = two.job_is ∙ one.job_is;
