@@ -2,7 +2,7 @@
 """Makes base files of two columns and says what a plain reader of docs/formats finds in them.
 
 The reader below is plain and shares nothing with the crates. `base_cases.py stdin` prints the files in hexadecimal, which
-the program base_cases reads, and `base_cases.py stdout` what must come of them; `base_cases.py names` says what each shows.
+the program base_cases reads, with a line `written` for a file that it writes, and `base_cases.py stdout` what must come of them; `base_cases.py names` says what each shows.
 """
 import struct
 import sys
@@ -533,6 +533,7 @@ def printed(data):
 
 
 if __name__ == "__main__":
+    print({"stdin": "written", "stdout": made([FIRST]).hex()}.get(sys.argv[1], "a file that is written"))
     for name, data in list(cases()) + list(small_changes()):
         found = printed(data)
         if found is not None:

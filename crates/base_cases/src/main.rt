@@ -1,13 +1,17 @@
 //! Base files of two columns, as a table of cases.
 //!
 //! Each line of the standard input is a file in hex. The program prints its rows of cells, or why it is no file of the
-//! columns and at which place. The columns are `k`, a required text, and `v`, an optional number of 32 bits.
+//! columns and at which place; for `written` it prints the file of two rows. The columns are `k`, a required text, and `v`, an optional number of 32 bits.
 #![tactic(auto)]
 
-ghost use Rattle.std.specs.Prelude.{◌≡◌, true};
+mod written;
+
+ghost use Rattle.std.specs.Prelude.{◌≡◌, true, not, IfOk};
 ghost use Rattle.std.specs.List.{list_all};
 ghost use Rattle.base_cells.specs.Columns.{is_group_of};
+ghost use Rattle.base_cases.specs.Sample.{the_columns};
 
+use crate::written::written_file;
 use anyhow::{Result, bail};
 use base_cells::{BaseCause, BaseError, read_footer, read_group};
 use hudi_base::{Bytes, Column, Columns, Value, Values};
@@ -19,14 +23,15 @@ fn main(rt: HostRuntime) -> Result<()> {
     let columns = columns(rt.alloc())?;
     for line in BufReader::new(rt.alloc(), rt.reader())?.lines(rt.alloc()) {
         let line = line?;
-        let bytes: Vec<u8> = hex::decode(rt.alloc(), line.as_str())?;
-        let answer = answer(rt.alloc(), &columns, &bytes)?;
+        let answer = answer(rt.alloc(), &columns, line.as_str())?;
         println!(rt; "{answer}")?;
     }
     Ok(())
 }
 
-fn column(alloc: Global, name: &[u8], physical: i32, optional: bool) -> Result<Column> {
+fn column(alloc: Global, name: &[u8], physical: i32, optional: bool) -> Result<Column>
+    ensures { IfOk result (λ column. column ≡ record { name = name.now; physical = physical; optional = optional; utf8 = not optional }) }
+{
     Ok(Column {
         name: Bytes::from_slice(alloc, name)?,
         physical,
@@ -35,15 +40,28 @@ fn column(alloc: Global, name: &[u8], physical: i32, optional: bool) -> Result<C
     })
 }
 
-fn columns(alloc: Global) -> Result<Columns> {
+fn columns(alloc: Global) -> Result<Columns>
+    ensures { IfOk result (λ columns. columns ≡ the_columns) }
+{
     let mut columns = Columns::new(alloc);
     columns.push(column(alloc, b"k", 6, false)?)?;
     columns.push(column(alloc, b"v", 1, true)?)?;
     Ok(columns)
 }
 
+// What is printed for a line.
+fn answer(alloc: Global, columns: &Columns, line: &str) -> Result<String>
+    requires { columns.now ≡ the_columns }
+{
+    if line == "written" {
+        return written_file(alloc, columns);
+    }
+    let bytes: Vec<u8> = hex::decode(alloc, line)?;
+    file_text(alloc, columns, &bytes)
+}
+
 // What is printed for a file.
-fn answer(alloc: Global, columns: &Columns, bytes: &[u8]) -> Result<String> {
+fn file_text(alloc: Global, columns: &Columns, bytes: &[u8]) -> Result<String> {
     match read_footer(alloc, columns, bytes) {
         Ok((meta, _)) => groups_text(alloc, columns, bytes, meta.groups.as_slice()),
         Err(error) => refusal(alloc, error),
