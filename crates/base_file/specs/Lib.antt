@@ -1,3 +1,4 @@
 pub mod BaseFiles
 pub mod KeyTables
 pub mod Loops
+pub mod WrittenRows
