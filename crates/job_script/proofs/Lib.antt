@@ -1,0 +1,5 @@
+pub mod LineParts
+pub mod MemberParts
+pub mod PutParts
+pub mod RowTokens
+pub mod ScriptParts

@@ -1,0 +1,5 @@
+pub mod Marks
+pub mod Putting
+pub mod Rows
+pub mod Script
+pub mod Texts

@@ -1,0 +1,132 @@
+// The line of a job and its answer.
+ghost use Rattle.std.specs.Prelude.{◌≡◌, ◌++◌, ◌∷◌, [], codes, decimal, OnOk, OnErr};
+ghost use Rattle.job_script.specs.Putting.{Puts};
+ghost use Rattle.job_script.specs.Texts.{answer_text, cause_text, job_text, name_of_line, rows_text, time_or_none};
+
+use crate::json_rows::put_rows;
+use crate::putting::{put_text, put_time_or_none, put_timed};
+use crate::script::{Line, ScriptJob};
+use hudi_base::{InstantTime, Name};
+use payload_merge::Row;
+use std::alloc::{AllocError, Global};
+use table_core::JobReply;
+use table_history::Cause;
+
+/// Adds the line of a job and its answer at the end of a text. The only error is want of memory, and then the text is
+/// as it was.
+pub fn put_job_text(
+    alloc: Global,
+    out: &mut Vec<u8>,
+    job: &ScriptJob,
+    reply: &JobReply,
+) -> Result<(), AllocError>
+    ensures ok { OnOk result (out.new.items ≡ out.old.items ++ job_text job.now reply.now) }
+    ensures err { OnErr result (out.new.items ≡ out.old.items) }
+{
+    let before = out.len();
+    match put_line(alloc, out, job, reply) {
+        Ok(()) => Ok(()),
+        Err(error) => {
+            out.truncate(before);
+            Err(error)
+        }
+    }
+}
+
+// Adds the line of a job and its answer.
+fn put_line(
+    alloc: Global,
+    out: &mut Vec<u8>,
+    job: &ScriptJob,
+    reply: &JobReply,
+) -> Result<(), AllocError>
+    ensures { Puts result out.old.items out.new.items (job_text job.now reply.now) }
+{
+    put_name(alloc, out, job)?;
+    put_answer(alloc, out, reply)?;
+    put_text(out, "\n")
+}
+
+// Adds the number and the name of a job.
+fn put_name(alloc: Global, out: &mut Vec<u8>, job: &ScriptJob) -> Result<(), AllocError>
+    ensures { Puts result out.old.items out.new.items
+        (decimal job.now.number ++ codes " " ++ name_of_line job.now.line ++ codes " ") }
+{
+    let number = job.number;
+    let name = name_of_line(&job.line);
+    let text = format!(in alloc; "{number} {name} ")?;
+    put_text(out, text.as_str())
+}
+
+// What the job of a line is called.
+fn name_of_line(line: &Line) -> &'static str
+    ensures { result.now ≡ name_of_line line.now }
+{
+    match line {
+        Line::Upsert(_) => "upsert",
+        Line::Snapshot => "snapshot",
+    }
+}
+
+// Adds an answer.
+#[tactic(auto, unfolding(crate::specs::Texts::answer_text))]
+fn put_answer(alloc: Global, out: &mut Vec<u8>, reply: &JobReply) -> Result<(), AllocError>
+    ensures { Puts result out.old.items out.new.items (answer_text reply.now) }
+{
+    match reply {
+        JobReply::Committed(time) => put_timed(out, "committed ", *time),
+        JobReply::Rows(time, rows) => put_snapshot(alloc, out, *time, rows.as_slice()),
+        JobReply::NotCompleted(time) => put_timed(out, "not_completed ", *time),
+        JobReply::TimeOver => put_text(out, "time_over"),
+        JobReply::Fault => put_text(out, "fault"),
+        JobReply::Damaged(name, cause, at) => put_damaged(alloc, out, name, *cause, *at),
+        JobReply::Memory => put_text(out, "memory"),
+    }
+}
+
+// Adds the answer that has rows.
+fn put_snapshot(
+    alloc: Global,
+    out: &mut Vec<u8>,
+    time: Option<InstantTime>,
+    rows: &[Row],
+) -> Result<(), AllocError>
+    ensures { Puts result out.old.items out.new.items
+        (codes "rows " ++ time_or_none time ++ codes " " ++ rows_text rows.now) }
+{
+    put_text(out, "rows ")?;
+    put_time_or_none(out, time)?;
+    put_text(out, " ")?;
+    put_rows(alloc, out, rows)
+}
+
+// Adds the answer that tells of a damaged file.
+fn put_damaged(
+    alloc: Global,
+    out: &mut Vec<u8>,
+    name: &Name,
+    cause: Cause,
+    at: u64,
+) -> Result<(), AllocError>
+    ensures { Puts result out.old.items out.new.items
+        (codes "damaged " ++ name.now ++ codes " " ++ cause_text cause ++ codes " " ++ decimal at) }
+{
+    let name = name.as_str();
+    let cause = cause_text(cause);
+    let text = format!(in alloc; "damaged {name} {cause} {at}")?;
+    put_text(out, text.as_str())
+}
+
+// What was wrong with a file.
+fn cause_text(cause: Cause) -> &'static str
+    ensures { result.now ≡ cause_text cause }
+{
+    match cause {
+        Cause::Exists => "exists",
+        Cause::Missing => "missing",
+        Cause::Short => "short",
+        Cause::Log => "log",
+        Cause::Base => "base",
+        Cause::Content => "content",
+    }
+}
