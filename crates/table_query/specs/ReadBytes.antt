@@ -5,7 +5,7 @@ use Rattle.table_history.specs.declared.entry.Entry.{Entry}
 use Rattle.table_history.specs.declared.reply.Reply.{Reply}
 use Rattle.table_history.specs.declared.reply.Reply.TheVariants.{Piece, Pinned}
 use Rattle.table_history.specs.declared.step.Step.{Step}
-use Rattle.table_history.specs.declared.step.Step.TheVariants.{Pin, Read}
+use Rattle.table_history.specs.declared.step.Step.TheVariants.{Pin, Unpin, Read}
 use Rattle.table_history.specs.declared.view.Part.{Part}
 use Rattle.table_history.specs.declared.view.View.{View}
 
@@ -27,14 +27,17 @@ pinned (e ∷ es) = by e.reply (pinned es)
     by (Pinned view) before = Some view
     by _ before = before
 
--- a pin is at this instant, of the latest where none is named, and of all files
-abbrev pub IsPinAt : Option ℕ → Step → Type 0
-IsPinAt at (Pin asked bases_only) = (asked ≡ at) × (bases_only ≡ false)
-IsPinAt at _ = Unit {0}
+-- A step of a query of this instant, of the latest where none is named: it pins all files, reads, or lets its pin go.
+abbrev pub IsQueryStep : Option ℕ → Step → Type 0
+IsQueryStep at (Pin asked bases_only) = (asked ≡ at) × (bases_only ≡ false)
+IsQueryStep at (Read from number offset len) = Unit {0}
+IsQueryStep at (Unpin pin) = Unit {0}
+IsQueryStep at _ = ⊥
 
+-- each of a job's own entries is such a step
 abbrev pub PinsAt : Option ℕ → List Entry → Type 0
 PinsAt at [] = Unit {0}
-PinsAt at (e ∷ es) = IsPinAt at e.step × PinsAt at es
+PinsAt at (e ∷ es) = IsQueryStep at e.step × PinsAt at es
 
 -- each file of the view was read to its end
 abbrev pub IsReadWhole : View → (ℕ → List ℕ) → Type 0

@@ -29,6 +29,7 @@ fn read_piece<T: Steps>(
     requires untold { told (entries_of (T.mine steps.old)) ≡ None }
     ensures job { T.job steps.new ≡ T.job steps.old }
     ensures seen { GoesOn (T.seen steps.old) (T.seen steps.new) }
+    ensures later { T.later steps.old steps.new }
     ensures leaves { LeavesOthers file (entries_of (T.mine steps.old)) (entries_of (T.mine steps.new)) }
     ensures piece { MatchResult result (λ bytes. GotPiece pin file at len (entries_of (T.mine steps.old)) (entries_of (T.mine steps.new)) bytes)
         (λ reply. HasFailed pin (entries_of (T.mine steps.new)) reply) }
@@ -67,6 +68,7 @@ fn read_file<T: Steps>(
     requires untold { told (entries_of (T.mine steps.old)) ≡ None }
     ensures job { T.job steps.new ≡ T.job steps.old }
     ensures seen { GoesOn (T.seen steps.old) (T.seen steps.new) }
+    ensures later { T.later steps.old steps.new }
     ensures leaves { LeavesOthers file (entries_of (T.mine steps.old)) (entries_of (T.mine steps.new)) }
     ensures read { MatchResult result (λ bytes. HasRead file size (entries_of (T.mine steps.old)) (entries_of (T.mine steps.new)) bytes)
         (λ reply. HasFailed pin (entries_of (T.mine steps.new)) reply) }
@@ -100,6 +102,7 @@ fn read_next<T: Steps>(
     requires untold { told (entries_of (T.mine steps.old)) ≡ None }
     ensures job { T.job steps.new ≡ T.job steps.old }
     ensures seen { GoesOn (T.seen steps.old) (T.seen steps.new) }
+    ensures later { T.later steps.old steps.new }
     ensures leaves { LeavesOthers number (entries_of (T.mine steps.old)) (entries_of (T.mine steps.new)) }
     ensures read { MatchResult result (λ bytes. HasReadNext pin number sizes.now (entries_of (T.mine steps.old)) (entries_of (T.mine steps.new)) bytes)
         (λ reply. HasFailed pin (entries_of (T.mine steps.new)) reply) }
@@ -124,6 +127,7 @@ pub(crate) fn read_all<T: Steps>(
     requires so_far { HasReadUpTo pin 0 sizes.now (entries_of (T.mine steps.old)) [] }
     ensures job { T.job steps.new ≡ T.job steps.old }
     ensures seen { GoesOn (T.seen steps.old) (T.seen steps.new) }
+    ensures later { T.later steps.old steps.new }
     ensures pins { (at : Option ℕ) → PinsAt at (entries_of (T.mine steps.old)) → PinsAt at (entries_of (T.mine steps.new)) }
     ensures view { pinned (entries_of (T.mine steps.new)) ≡ pinned (entries_of (T.mine steps.old)) }
     ensures read { MatchResult result

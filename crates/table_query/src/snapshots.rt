@@ -21,6 +21,7 @@ fn pin<T: Steps>(steps: &mut T, at: Option<InstantTime>) -> Result<View, JobRepl
     requires { T.mine steps.old ≡ [] }
     ensures job { T.job steps.new ≡ T.job steps.old }
     ensures seen { GoesOn (T.seen steps.old) (T.seen steps.new) }
+    ensures later { T.later steps.old steps.new }
     ensures pins { PinsAt at (entries_of (T.mine steps.new)) }
     ensures view { MatchResult result (λ view. HasPinned view (entries_of (T.mine steps.new)))
         (λ reply. (reading : TableReading) → IsQueryReply reading at (entries_of (T.mine steps.new)) reply) }
@@ -42,6 +43,7 @@ fn unpin<T: Steps>(steps: &mut T, pin: u64)
     requires { MayLeave pin (phase (entries_of (T.mine steps.old))) }
     ensures job { T.job steps.new ≡ T.job steps.old }
     ensures seen { GoesOn (T.seen steps.old) (T.seen steps.new) }
+    ensures later { T.later steps.old steps.new }
     ensures gone { HasUnpinned (entries_of (T.mine steps.old)) (entries_of (T.mine steps.new)) }
 {
     match steps.apply(Step::Unpin { pin }) {
@@ -56,6 +58,7 @@ fn read_view<T: Steps>(alloc: Global, steps: &mut T, view: &View) -> Result<Vec<
     requires { HasPinned view.now (entries_of (T.mine steps.old)) }
     ensures job { T.job steps.new ≡ T.job steps.old }
     ensures seen { GoesOn (T.seen steps.old) (T.seen steps.new) }
+    ensures later { T.later steps.old steps.new }
     ensures pins { (at : Option ℕ) → PinsAt at (entries_of (T.mine steps.old)) → PinsAt at (entries_of (T.mine steps.new)) }
     ensures read { MatchResult result (λ texts. HasReadView view.now (entries_of (T.mine steps.new)) texts.items)
         (λ reply. HasFailed view.now.pin (entries_of (T.mine steps.new)) reply) }
@@ -94,6 +97,7 @@ pub fn snapshot<T: Steps, K: TableCodec, G: Gate>(
     requires { T.mine steps.old ≡ [] }
     ensures job { T.job steps.new ≡ T.job steps.old }
     ensures seen { GoesOn (T.seen steps.old) (T.seen steps.new) }
+    ensures later { T.later steps.old steps.new }
     // The pin is at this instant. The answer is told by the job's own entries, or made of the bytes that they read, and the
     // pin is gone.
     ensures answer { IsQueryReply (record { rows = K.block_rows codec.now; table = K.table_name codec.now }) at (entries_of (T.mine steps.new)) result }

@@ -2,3 +2,4 @@ pub mod Leaving
 pub mod PlacedRows
 pub mod Runs
 pub mod WholeBatches
+pub mod WriterSteps

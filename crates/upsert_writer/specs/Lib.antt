@@ -1,4 +1,5 @@
 pub mod BatchRows
 pub mod Slots
 pub mod Blocks
+pub mod WriterSteps
 pub mod Writers

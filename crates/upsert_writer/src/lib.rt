@@ -11,8 +11,10 @@ mod blocks;
 mod laws;
 mod rows;
 mod slots;
+mod work;
 mod writer;
 
 pub use batch::Batch;
 pub use laws::batches_are_written_whole;
+pub use work::AnyBatch;
 pub use writer::write_batch;

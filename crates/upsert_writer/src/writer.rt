@@ -6,10 +6,12 @@ ghost use Rattle.table_history.specs.declared.step.PartitionSlots.{PartitionSlot
 ghost use Rattle.table_history.specs.declared.step.Step.TheVariants.{Abandon};
 ghost use Rattle.table_forms.specs.NameForms.{IsPartitionPath};
 ghost use Rattle.table_jobs.specs.Replies.{IsTold, IsWriterReply, told};
-ghost use Rattle.upsert_writer.specs.BatchRows.{IsBatch, is_in_group, rows_of};
-ghost use Rattle.upsert_writer.specs.Blocks.{HoldsEach, HoldsRows};
+ghost use Rattle.payload_merge.specs.declared.row.Row.{Row};
+ghost use Rattle.upsert_writer.specs.BatchRows.{IsBatch, is_in_group, rows_from, rows_of};
+ghost use Rattle.upsert_writer.specs.Blocks.{BlockForm, HoldsEach, HoldsRows};
 ghost use Rattle.upsert_writer.specs.Slots.{AreSlotsOf};
-ghost use Rattle.upsert_writer.specs.Writers.{IsAt, IsLeft};
+ghost use Rattle.upsert_writer.specs.WriterSteps.{WritesBatch};
+ghost use Rattle.upsert_writer.specs.Writers.{IsAt, IsLeft, WritesOn};
 
 use crate::Batch;
 use crate::blocks::block_of;
@@ -28,6 +30,8 @@ fn leave<T: Steps>(steps: &mut T, t: InstantTime)
     requires { Allows (record { Asks = T.asks; Holds = T.holds }) (T.job steps.old) (phase (entries_of (T.mine steps.old))) (Abandon t) }
     ensures job { T.job steps.new ≡ T.job steps.old }
     ensures seen { GoesOn (T.seen steps.old) (T.seen steps.new) }
+    ensures later { T.later steps.old steps.new }
+    ensures wrote { (form : BlockForm) (batch : List Row) → WritesOn form batch (entries_of (T.mine steps.old)) (entries_of (T.mine steps.new)) }
     ensures left { IsLeft (entries_of (T.mine steps.old)) (entries_of (T.mine steps.new)) }
 {
     match steps.apply(Step::Abandon { t }) {
@@ -41,6 +45,8 @@ fn begin<T: Steps>(steps: &mut T) -> Result<InstantTime, JobReply>
     requires { T.mine steps.old ≡ [] }
     ensures job { T.job steps.new ≡ T.job steps.old }
     ensures seen { GoesOn (T.seen steps.old) (T.seen steps.new) }
+    ensures later { T.later steps.old steps.new }
+    ensures wrote { (form : BlockForm) (batch : List Row) → WritesOn form batch (entries_of (T.mine steps.old)) (entries_of (T.mine steps.new)) }
     ensures answer { MatchResult result (λ t. IsAt (Drawn t) (entries_of (T.mine steps.new)))
         (λ reply. IsWriterReply (entries_of (T.mine steps.new)) reply) }
 {
@@ -66,6 +72,8 @@ fn enter<T: Steps>(
     requires asks { T.asks (T.job steps.old) slots }
     ensures job { T.job steps.new ≡ T.job steps.old }
     ensures seen { GoesOn (T.seen steps.old) (T.seen steps.new) }
+    ensures later { T.later steps.old steps.new }
+    ensures wrote { (form : BlockForm) (batch : List Row) → AreSlotsOf batch slots → WritesOn form batch (entries_of (T.mine steps.old)) (entries_of (T.mine steps.new)) }
     ensures answer { MatchResult result (λ targets. IsAt (Writes t targets 0) (entries_of (T.mine steps.new)))
         (λ reply. IsWriterReply (entries_of (T.mine steps.new)) reply) }
 {
@@ -93,6 +101,8 @@ fn finish<T: Steps>(steps: &mut T, t: InstantTime, targets: &[Target]) -> JobRep
     requires { IsAt (Writes t targets.now (length targets.now)) (entries_of (T.mine steps.old)) }
     ensures job { T.job steps.new ≡ T.job steps.old }
     ensures seen { GoesOn (T.seen steps.old) (T.seen steps.new) }
+    ensures later { T.later steps.old steps.new }
+    ensures wrote { (form : BlockForm) (batch : List Row) → WritesOn form batch (entries_of (T.mine steps.old)) (entries_of (T.mine steps.new)) }
     ensures answer { IsWriterReply (entries_of (T.mine steps.new)) result }
 {
     match steps.apply(Step::Finish {
@@ -136,6 +146,9 @@ fn append<T: Steps, K: TableCodec>(
         (record { reading = K.block_rows codec.now; table = K.table_name codec.now; schema = K.schema codec.now }) rows.now t }
     ensures job { T.job steps.new ≡ T.job steps.old }
     ensures seen { GoesOn (T.seen steps.old) (T.seen steps.new) }
+    ensures later { T.later steps.old steps.new }
+    ensures wrote { (batch : List Row) → rows.now ≡ rows_from t 0 batch → WritesOn (record { reading = K.block_rows codec.now; table = K.table_name codec.now; schema = K.schema codec.now })
+        batch (entries_of (T.mine steps.old)) (entries_of (T.mine steps.new)) }
     ensures answer { MatchResult result (λ _. IsAt (Writes t targets.now (number + 1)) (entries_of (T.mine steps.new)))
         (λ reply. IsWriterReply (entries_of (T.mine steps.new)) reply) }
 {
@@ -185,6 +198,9 @@ fn append_all<T: Steps, K: TableCodec, G: Gate>(
         (record { reading = K.block_rows codec.now; table = K.table_name codec.now; schema = K.schema codec.now }) rows.now t }
     ensures job { T.job steps.new ≡ T.job steps.old }
     ensures seen { GoesOn (T.seen steps.old) (T.seen steps.new) }
+    ensures later { T.later steps.old steps.new }
+    ensures wrote { (batch : List Row) → rows.now ≡ rows_from t 0 batch → WritesOn (record { reading = K.block_rows codec.now; table = K.table_name codec.now; schema = K.schema codec.now })
+        batch (entries_of (T.mine steps.old)) (entries_of (T.mine steps.new)) }
     ensures answer { MatchResult result (λ _. IsAt (Writes t targets.now (length targets.now)) (entries_of (T.mine steps.new)))
         (λ reply. IsWriterReply (entries_of (T.mine steps.new)) reply) }
 {
@@ -215,6 +231,9 @@ fn write_rows<T: Steps, K: TableCodec, G: Gate>(
         (record { reading = K.block_rows codec.now; table = K.table_name codec.now; schema = K.schema codec.now }) rows }
     ensures job { T.job steps.new ≡ T.job steps.old }
     ensures seen { GoesOn (T.seen steps.old) (T.seen steps.new) }
+    ensures later { T.later steps.old steps.new }
+    ensures wrote { WritesOn (record { reading = K.block_rows codec.now; table = K.table_name codec.now; schema = K.schema codec.now })
+        rows (entries_of (T.mine steps.old)) (entries_of (T.mine steps.new)) }
     ensures answer { MatchResult result (λ _. IsAt (Writes t targets.now (length targets.now)) (entries_of (T.mine steps.new)))
         (λ reply. IsWriterReply (entries_of (T.mine steps.new)) reply) }
 {
@@ -247,10 +266,14 @@ pub fn write_batch<T: Steps, K: TableCodec, G: Gate>(
         (record { reading = K.block_rows codec.now; table = K.table_name codec.now; schema = K.schema codec.now }) (rows_of batch) }
     ensures job { T.job steps.new ≡ T.job steps.old }
     ensures seen { GoesOn (T.seen steps.old) (T.seen steps.new) }
+    ensures later { T.later steps.old steps.new }
+    // Each step that it takes is the next one of a writer of the batch.
+    ensures wrote { WritesBatch (record { reading = K.block_rows codec.now; table = K.table_name codec.now; schema = K.schema codec.now })
+        (rows_of batch) (entries_of (T.mine steps.new)) }
     // The answer is the one that the job's own entries tell, and these are its automaton to an end.
     ensures answer { IsWriterReply (entries_of (T.mine steps.new)) result }
 {
-    let Batch::Puts(rows) = batch;
+    let rows = batch.into_rows();
     let Ok(slots) = slots_of(alloc, rows.as_slice()) else {
         return JobReply::Memory;
     };

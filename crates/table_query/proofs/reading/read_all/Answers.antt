@@ -23,6 +23,7 @@ loop-number-preserved g c =
     record {
       job = c.read_next.ensures.job ∙ before.job;
       seen = goes_on _ _ _ before.seen c.read_next.ensures.seen;
+      later = g.met.T.Steps.later_on _ _ _ before.later c.read_next.ensures.later;
       pins = λ at pinned. c.read_next.ensures.leaves.pins at (before.pins at pinned);
       view = c.read_next.ensures.leaves.view ∙ before.view;
       read = record {

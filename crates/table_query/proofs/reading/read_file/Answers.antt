@@ -19,6 +19,7 @@ loop-at-preserved g c =
     record {
       job = c.read_piece.ensures.job ∙ before.job;
       seen = goes_on _ _ _ before.seen c.read_piece.ensures.seen;
+      later = g.met.T.Steps.later_on _ _ _ before.later c.read_piece.ensures.later;
       leaves = record {
         pins = λ at pinned. c.read_piece.ensures.leaves.pins at (before.leaves.pins at pinned);
         view = c.read_piece.ensures.leaves.view ∙ before.leaves.view;

@@ -9,6 +9,7 @@ abbrev pub invariant-loop-at : goal.invariant-loop-at
 invariant-loop-at g l = record {
   job : g.T.Steps.job l.steps ≡ g.T.Steps.job l.initial.steps;
   seen : GoesOn (g.T.Steps.seen l.initial.steps) (g.T.Steps.seen l.steps);
+  later : g.T.Steps.later l.initial.steps l.steps;
   leaves : LeavesOthers l.file (entries_of (g.T.Steps.mine l.initial.steps)) (entries_of (g.T.Steps.mine l.steps));
   phase : phase (entries_of (g.T.Steps.mine l.steps)) ≡ read_up_to l.at (phase (entries_of (g.T.Steps.mine l.initial.steps)));
   untold : told (entries_of (g.T.Steps.mine l.steps)) ≡ None;

@@ -14,3 +14,6 @@ pub append_all-requires-clause-counted : goal.append_all-requires-clause-counted
 append_all-requires-clause-counted g c =
     let is : c.deref.result.now ≡ rows_from c.args.t 0 c.args.rows = c.deref.ensures.value ∙ c.in-Ok.ensures in
     rw (is, rows_from-length c.args.t 0 c.args.rows) c.requires.batch.counted
+
+pub returns-in_default-clause-wrote : goal.returns-in_default-clause-wrote
+returns-in_default-clause-wrote g c = λ before. c.leave.ensures.wrote _ c.args.rows before
