@@ -1,0 +1,13 @@
+pub mod Beginnings
+pub mod Made
+pub mod LogTexts
+pub mod OneSlice
+pub mod Placed
+pub mod FilesRead
+pub mod RowBlocks
+pub mod Scans
+pub mod SnapshotAnswers
+pub mod Times
+pub mod Turns
+pub mod ViewWrites
+pub mod Writes

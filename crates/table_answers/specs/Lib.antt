@@ -1,0 +1,4 @@
+pub mod InTurn
+pub mod InstantWrites
+pub mod NamedRuns
+pub mod Snapshots

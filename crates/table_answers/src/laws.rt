@@ -1,0 +1,66 @@
+// Laws of answers, over the definitions of specs/. The functions do nothing: their clauses are the laws.
+ghost use Rattle.std.specs.Prelude.{ℕ, List, [], ◌++◌, Option};
+ghost use Rattle.std.specs.List.{AllByRecursion};
+ghost use Rattle.hudi_base.specs.Files.{FileMap};
+ghost use Rattle.payload_merge.specs.declared.row.Row.{Row};
+ghost use Rattle.table_board.specs.HonestRuns.{IsUndamaged};
+ghost use Rattle.table_core.specs.declared.job_reply.JobReply.{JobReply};
+ghost use Rattle.table_history.specs.Histories.{History};
+ghost use Rattle.table_history.specs.JobLaw.{IsLegal};
+ghost use Rattle.table_history.specs.Tables.{Table, fresh};
+ghost use Rattle.table_history.specs.declared.entry.Entry.{Entry};
+ghost use Rattle.table_history.specs.declared.job.Job.{Job};
+ghost use Rattle.table_images.specs.Blocks.{work_of};
+ghost use Rattle.table_images.specs.Runs.{IsRun, Run, history_of};
+ghost use Rattle.table_query.specs.Answers.{IsQueryReply};
+ghost use Rattle.table_query.specs.ReadBytes.{PinsAt};
+ghost use Rattle.upsert_writer.specs.Blocks.{BlockForm};
+ghost use Rattle.upsert_writer.specs.WriterSteps.{WritesBatch};
+ghost use Rattle.table_answers.specs.InTurn.{CarriesForm, IsInTurn, IsMadeBy};
+ghost use Rattle.table_answers.specs.NamedRuns.{AllNamesFit};
+ghost use Rattle.table_answers.specs.Snapshots.{AnswersSnapshot};
+
+use table_history::Work;
+
+/// A job that makes its entries after those of others goes on with a history in turn.
+pub fn turns_go_on()
+    ensures first { IsInTurn [] }
+    ensures next { (before after : History) (job : Job) (mine : List Entry)
+        → IsInTurn before → IsMadeBy job before after mine → IsInTurn after }
+{}
+
+/// The appends of a writer carry blocks of its rows.
+pub fn writers_carry_rows()
+    ensures { (form : BlockForm) (rows : List Row) (before after : History) (job : Job) (mine : List Entry)
+        → CarriesForm form before → IsMadeBy job before after mine → WritesBatch form rows mine
+        → CarriesForm form after }
+{}
+
+/// A query appends nothing.
+pub fn queries_carry_rows()
+    ensures { (form : BlockForm) (at : Option ℕ) (before after : History) (job : Job) (mine : List Entry)
+        → CarriesForm form before → IsMadeBy job before after mine → PinsAt at mine → CarriesForm form after }
+{}
+
+/// A history is legal, and its names have a form, where this holds of one that goes on from it; and the names of a run
+/// have a form.
+pub fn beginnings_are_legal<W: Work>()
+    ensures legal { (A : Table) (before : History) (more : List Entry)
+        → IsLegal (work_of W.asks W.holds) A (more ++ before) → IsLegal (work_of W.asks W.holds) A before }
+    ensures names { (A : Table) (before : History) (more : List Entry)
+        → AllNamesFit A (more ++ before) → AllNamesFit A before }
+    ensures runs { (A : Table) (files : FileMap) (R : Run)
+        → IsRun (work_of W.asks W.holds) A files R → AllNamesFit A (history_of R) }
+{}
+
+/// What a query answers, made of the bytes that it read, is the fold of the instants that were completed when it began,
+/// up to the one that it pinned. So it is on a table that began without instants, where jobs came in turn, each append
+/// carried a block of the form, and no file was damaged.
+pub fn snapshots_are_folds<W: Work>()
+    ensures { (form : BlockForm) (before after : History) (job : Job) (mine : List Entry) (at : Option ℕ)
+        (given : JobReply) → IsMadeBy job before after mine
+        → IsLegal (work_of W.asks W.holds) (fresh form.table) after → AllNamesFit (fresh form.table) before
+        → IsInTurn before → CarriesForm form before → AllByRecursion IsUndamaged mine
+        → IsQueryReply (record { rows = form.reading; table = form.table }) at mine given
+        → AnswersSnapshot form (fresh form.table) before at given }
+{}
