@@ -1,5 +1,6 @@
 pub mod Leaving
 pub mod PlacedRows
 pub mod Runs
+pub mod TargetRows
 pub mod WholeBatches
 pub mod WriterSteps

@@ -1,5 +1,5 @@
 -- One more step of a writer.
-use Rattle.std.proofs.Common.{◌≡◌, ◌<◌, ℕ, List, ◌∷◌, length, filter, get_or, refl, sym, subst}
+use Rattle.std.proofs.Common.{◌≡◌, ◌<◌, ℕ, List, ◌∷◌, length, get_or, refl, sym, subst}
 use Rattle.std.specs.Prelude.{slice_get, Option, IsSomeAnd}
 use Rattle.std.proofs.lemmas.Option.{slice_get-get_or}
 use Rattle.hudi_base.specs.declared.file_group.Target.{Target}
@@ -10,7 +10,7 @@ use Rattle.table_history.specs.declared.job.Job.{Job}
 use Rattle.table_history.specs.declared.reply.Reply.{Reply}
 use Rattle.table_history.specs.declared.step.Step.{Step}
 use Rattle.table_history.specs.declared.step.Step.TheVariants.{Append}
-use Rattle.upsert_writer.specs.BatchRows.{is_in_group, rows_from}
+use Rattle.upsert_writer.specs.BatchRows.{rows_to}
 use Rattle.upsert_writer.specs.Blocks.{BlockForm, HasRows}
 use Rattle.upsert_writer.specs.WriterSteps.{IsWriterStep, WritesBatch, targets_given}
 use Rattle.upsert_writer.specs.Writers.{WritesOn}
@@ -46,12 +46,12 @@ may_append work job p t targets number target d writes bytes at same within hold
     let P : Phase → Type 0 = λ q. Allows work job q (Append t target writes bytes) in
     subst P (sym at) (refl, same, some_at (λ (x : Target). work.Holds job t x writes bytes) targets number d within holds)
 
-pub is_append : (form : BlockForm) (batch rows : List Row) (t : ℕ) (given targets : List Target) (number target : ℕ) (d : Target) (writes : ℕ) (bytes : List ℕ)
-    → given ≡ targets → target ≡ number → number < length targets → rows ≡ rows_from t 0 batch
-    → HasRows form (filter (is_in_group (get_or targets number d).group) rows) t (get_or targets number d).group writes bytes → IsWriterStep form batch given (Append t target writes bytes)
-is_append form batch rows t given targets number target d writes bytes same numbered within placed block =
+pub is_append : (form : BlockForm) (batch own : List Row) (t : ℕ) (given targets : List Target) (number target : ℕ) (d : Target) (writes : ℕ) (bytes : List ℕ)
+    → given ≡ targets → target ≡ number → number < length targets → own ≡ rows_to t (get_or targets number d).group batch
+    → HasRows form own t (get_or targets number d).group writes bytes → IsWriterStep form batch given (Append t target writes bytes)
+is_append form batch own t given targets number target d writes bytes same numbered within is block =
     let s : Target = get_or targets number d in
     let P : List Target → Type 0 = λ ts. IsWriterStep form batch ts (Append t target writes bytes) in
     let Q : ℕ → Type 0 = λ n. IsWriterStep form batch targets (Append t n writes bytes) in
-    let R : List Row → Type 0 = λ xs. HasRows form (filter (is_in_group s.group) xs) t s.group writes bytes in
-    subst P (sym same) (subst Q (sym numbered) (some_at (λ (x : Target). HasRows form (filter (is_in_group x.group) (rows_from t 0 batch)) t x.group writes bytes) targets number d within (subst R placed block)))
+    let R : List Row → Type 0 = λ xs. HasRows form xs t s.group writes bytes in
+    subst P (sym same) (subst Q (sym numbered) (some_at (λ (x : Target). HasRows form (rows_to t x.group batch) t x.group writes bytes) targets number d within (subst R is block)))

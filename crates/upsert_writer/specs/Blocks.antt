@@ -1,5 +1,5 @@
 -- The blocks of a batch.
-use Rattle.std.specs.Prelude.{◌≡◌, ℕ, List, filter, length, Ok}
+use Rattle.std.specs.Prelude.{◌≡◌, ℕ, List, length, Ok}
 use Rattle.hudi_base.specs.declared.file_group.GroupRef.{GroupRef}
 use Rattle.hudi_base.specs.declared.file_group.Target.{Target}
 use Rattle.log_block.specs.Form.{Fits, block_bytes}
@@ -8,7 +8,7 @@ use Rattle.payload_merge.specs.Contents.{DataReading}
 use Rattle.payload_merge.specs.declared.row.Row.{Row}
 use Rattle.table_history.specs.declared.job.Job.{Job}
 use Rattle.table_jobs.specs.Places.{place_in}
-use Rattle.upsert_writer.specs.BatchRows.{is_in_group, rows_to}
+use Rattle.upsert_writer.specs.BatchRows.{rows_to}
 
 -- How a table's blocks are written: how a data content reads, the table's name, and the text in the place of a schema.
 pub record BlockForm : Type 0 where
@@ -33,8 +33,3 @@ IsBlockOf form rows t s writes bytes = HasRows form (rows_to t s.group rows) t s
 abbrev pub HoldsEach : (Job → ℕ → Target → ℕ → List ℕ → Type 0) → Job → BlockForm → List Row → Type 0
 HoldsEach Holds job form rows =
     (t : ℕ) (s : Target) (writes : ℕ) (bytes : List ℕ) → IsBlockOf form rows t s writes bytes → Holds job t s writes bytes
-
--- Each block that may be written of an instant's rows, group by group, is one that the table holds for the job.
-abbrev pub HoldsRows : (Job → ℕ → Target → ℕ → List ℕ → Type 0) → Job → BlockForm → List Row → ℕ → Type 0
-HoldsRows Holds job form rows t =
-    (s : Target) (writes : ℕ) (bytes : List ℕ) → HasRows form (filter (is_in_group s.group) rows) t s.group writes bytes → Holds job t s writes bytes

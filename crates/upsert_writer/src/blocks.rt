@@ -1,12 +1,10 @@
 // The blocks that a writer makes of its rows.
-ghost use Rattle.std.specs.Prelude.{◌≡◌, ◌<◌, ◌≤◌, ◌^◌, length, filter, All, IfOk, Ok};
+ghost use Rattle.std.specs.Prelude.{◌≡◌, ◌<◌, ◌^◌, length, All, IfOk, Ok};
 ghost use Rattle.file_names.specs.FileId.{file_id};
 ghost use Rattle.payload_merge.specs.Contents.{AreRowsOf};
-ghost use Rattle.upsert_writer.specs.BatchRows.{is_in_group};
 ghost use Rattle.upsert_writer.specs.Blocks.{HasRows};
 ghost use Rattle.table_jobs.specs.Places.{place_in};
 
-use crate::rows::{all_in_group, copies_in_group};
 use hudi_base::{Bytes, GroupRef, InstantTime, Name};
 use log_block::{Block, write_block};
 use payload_merge::Row;
@@ -40,8 +38,8 @@ fn content_of<K: TableCodec>(
     }
 }
 
-// The block of rows that all lie in the group.
-fn block_with<K: TableCodec>(
+/// The block of rows that all lie in the group. The only error is want of memory.
+pub(crate) fn block_of<K: TableCodec>(
     alloc: Global,
     codec: &K,
     t: InstantTime,
@@ -67,27 +65,4 @@ fn block_with<K: TableCodec>(
         }),
         Err(_) => Err(AllocError),
     }
-}
-
-/// The block of those of an instant's rows that lie in the group. Where all do, none is copied. The only error is want of
-/// memory.
-pub(crate) fn block_of<K: TableCodec>(
-    alloc: Global,
-    codec: &K,
-    t: InstantTime,
-    group: &GroupRef,
-    rows: &[Row],
-) -> Result<WrittenBlock, AllocError>
-    requires own { All (K.own_row codec.now) rows.now }
-    requires at { All (λ row. row.commit ≡ t) rows.now }
-    requires counted { length rows.now < 2 ^ 32 }
-    ensures { IfOk result (λ block. HasRows
-        (record { reading = K.block_rows codec.now; table = K.table_name codec.now; schema = K.schema codec.now })
-        (filter (is_in_group group.now) rows.now) t group.now block.writes block.bytes) }
-{
-    if all_in_group(group, rows) {
-        return block_with(alloc, codec, t, group, rows);
-    }
-    let own = copies_in_group(alloc, group, rows)?;
-    block_with(alloc, codec, t, group, &own)
 }

@@ -10,6 +10,7 @@ mod batch;
 mod blocks;
 mod laws;
 mod rows;
+mod sharing;
 mod slots;
 mod work;
 mod writer;

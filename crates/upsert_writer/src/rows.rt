@@ -43,8 +43,8 @@ pub(crate) fn rows_at(alloc: Global, rows: Rows, t: InstantTime) -> Result<Vec<R
     Ok(placed)
 }
 
-// Whether a row lies in a file group.
-fn is_in_group(group: &GroupRef, row: &Row) -> bool
+/// Whether a row lies in a file group.
+pub(crate) fn is_in_group(group: &GroupRef, row: &Row) -> bool
     ensures { result ≡ is_in_group group.now row.now }
 {
     let slot = slot_of(row.key.as_slice());

@@ -1,5 +1,5 @@
 // The writer.
-ghost use Rattle.std.specs.Prelude.{◌≡◌, ◌<◌, ◌+◌, ◌^◌, ℕ, List, [], length, All, MatchResult};
+ghost use Rattle.std.specs.Prelude.{◌≡◌, ◌<◌, ◌+◌, ℕ, List, [], Some, length, slice_get, get_or, All, MatchResult};
 ghost use Rattle.hudi_base.specs.declared.file_group.Target.{Target};
 ghost use Rattle.table_history.specs.JobLaw.{Allows, Drawn, GoesOn, Writes, entries_of, phase};
 ghost use Rattle.table_history.specs.declared.step.PartitionSlots.{PartitionSlots};
@@ -7,15 +7,16 @@ ghost use Rattle.table_history.specs.declared.step.Step.TheVariants.{Abandon};
 ghost use Rattle.table_forms.specs.NameForms.{IsPartitionPath};
 ghost use Rattle.table_jobs.specs.Replies.{IsTold, IsWriterReply, told};
 ghost use Rattle.payload_merge.specs.declared.row.Row.{Row};
-ghost use Rattle.upsert_writer.specs.BatchRows.{IsBatch, is_in_group, rows_from, rows_of};
-ghost use Rattle.upsert_writer.specs.Blocks.{BlockForm, HoldsEach, HoldsRows};
+ghost use Rattle.upsert_writer.specs.BatchRows.{IsBatch, rows_from, rows_of, rows_to};
+ghost use Rattle.upsert_writer.specs.Blocks.{BlockForm, HoldsEach};
 ghost use Rattle.upsert_writer.specs.Slots.{AreSlotsOf};
+ghost use Rattle.upsert_writer.specs.TargetRows.{MayWrite, rows_of_each};
 ghost use Rattle.upsert_writer.specs.WriterSteps.{WritesBatch};
 ghost use Rattle.upsert_writer.specs.Writers.{IsAt, IsLeft, WritesOn};
 
 use crate::Batch;
 use crate::blocks::block_of;
-use crate::rows::rows_at;
+use crate::sharing::parts_at;
 use crate::slots::slots_of;
 use hudi_base::{Gate, InstantTime, Place, Sequence, Target};
 use payload_merge::{Row, Rows};
@@ -126,7 +127,7 @@ fn finish<T: Steps>(steps: &mut T, t: InstantTime, targets: &[Target]) -> JobRep
     }
 }
 
-// Appends the block of the target with this number.
+// Appends the block of the rows that lie in the target with this number.
 #[tactic(auto, using(table_jobs::proofs::Seen::goes_on))]
 fn append<T: Steps, K: TableCodec>(
     alloc: Global,
@@ -135,25 +136,22 @@ fn append<T: Steps, K: TableCodec>(
     t: InstantTime,
     targets: &[Target],
     number: usize,
-    rows: &[Row],
+    own: &[Row],
 ) -> Result<(), JobReply>
     requires number { number < length targets.now }
     requires so_far { IsAt (Writes t targets.now number) (entries_of (T.mine steps.old)) }
-    requires own { All (K.own_row codec.now) rows.now }
-    requires at { All (λ row. row.commit ≡ t) rows.now }
-    requires counted { length rows.now < 2 ^ 32 }
-    requires holds { HoldsRows T.holds (T.job steps.old)
-        (record { reading = K.block_rows codec.now; table = K.table_name codec.now; schema = K.schema codec.now }) rows.now t }
+    requires may { (s : Target) → slice_get targets.now number ≡ Some s → MayWrite (K.own_row codec.now) T.holds (T.job steps.old)
+        (record { reading = K.block_rows codec.now; table = K.table_name codec.now; schema = K.schema codec.now }) t s own.now }
     ensures job { T.job steps.new ≡ T.job steps.old }
     ensures seen { GoesOn (T.seen steps.old) (T.seen steps.new) }
     ensures later { T.later steps.old steps.new }
-    ensures wrote { (batch : List Row) → rows.now ≡ rows_from t 0 batch → WritesOn (record { reading = K.block_rows codec.now; table = K.table_name codec.now; schema = K.schema codec.now })
-        batch (entries_of (T.mine steps.old)) (entries_of (T.mine steps.new)) }
+    ensures wrote { (batch : List Row) → ((s : Target) → slice_get targets.now number ≡ Some s → own.now ≡ rows_to t s.group batch) → WritesOn
+        (record { reading = K.block_rows codec.now; table = K.table_name codec.now; schema = K.schema codec.now }) batch (entries_of (T.mine steps.old)) (entries_of (T.mine steps.new)) }
     ensures answer { MatchResult result (λ _. IsAt (Writes t targets.now (number + 1)) (entries_of (T.mine steps.new)))
         (λ reply. IsWriterReply (entries_of (T.mine steps.new)) reply) }
 {
     let (Ok(block), Ok(target)) = (
-        block_of(alloc, codec, t, &targets[number].group, rows),
+        block_of(alloc, codec, t, &targets[number].group, own),
         u32::try_from(number),
     ) else {
         leave(steps, t);
@@ -178,7 +176,7 @@ fn append<T: Steps, K: TableCodec>(
     }
 }
 
-// Appends the block of each target.
+// Appends the block of each target, of which these are the rows.
 #[tactic(auto, using(table_jobs::proofs::Seen::goes_on, table_jobs::proofs::Seen::stays))]
 fn append_all<T: Steps, K: TableCodec, G: Gate>(
     alloc: Global,
@@ -186,26 +184,25 @@ fn append_all<T: Steps, K: TableCodec, G: Gate>(
     codec: &K,
     t: InstantTime,
     targets: &[Target],
-    rows: &[Row],
+    parts: &[Rows],
     lane: u32,
     gate: &G,
 ) -> Result<(), JobReply>
     requires so_far { IsAt (Writes t targets.now 0) (entries_of (T.mine steps.old)) }
-    requires own { All (K.own_row codec.now) rows.now }
-    requires at { All (λ row. row.commit ≡ t) rows.now }
-    requires counted { length rows.now < 2 ^ 32 }
-    requires holds { HoldsRows T.holds (T.job steps.old)
-        (record { reading = K.block_rows codec.now; table = K.table_name codec.now; schema = K.schema codec.now }) rows.now t }
+    requires as_many { length parts.now ≡ length targets.now }
+    requires may { (k : ℕ) (s : Target) → slice_get targets.now k ≡ Some s → MayWrite (K.own_row codec.now) T.holds (T.job steps.old)
+        (record { reading = K.block_rows codec.now; table = K.table_name codec.now; schema = K.schema codec.now }) t s (get_or parts.now k []) }
     ensures job { T.job steps.new ≡ T.job steps.old }
     ensures seen { GoesOn (T.seen steps.old) (T.seen steps.new) }
     ensures later { T.later steps.old steps.new }
-    ensures wrote { (batch : List Row) → rows.now ≡ rows_from t 0 batch → WritesOn (record { reading = K.block_rows codec.now; table = K.table_name codec.now; schema = K.schema codec.now })
-        batch (entries_of (T.mine steps.old)) (entries_of (T.mine steps.new)) }
+    ensures wrote { (batch : List Row) → parts.now ≡ rows_of_each targets.now (rows_from t 0 batch) → WritesOn
+        (record { reading = K.block_rows codec.now; table = K.table_name codec.now; schema = K.schema codec.now }) batch (entries_of (T.mine steps.old)) (entries_of (T.mine steps.new)) }
     ensures answer { MatchResult result (λ _. IsAt (Writes t targets.now (length targets.now)) (entries_of (T.mine steps.new)))
         (λ reply. IsWriterReply (entries_of (T.mine steps.new)) reply) }
 {
     for number in 0..targets.len() {
-        if let Err(reply) = append(alloc, steps, codec, t, targets, number, rows) {
+        let own = parts[number].as_slice();
+        if let Err(reply) = append(alloc, steps, codec, t, targets, number, own) {
             return Err(reply);
         }
         gate.at(lane, Place::AfterAppend);
@@ -213,7 +210,7 @@ fn append_all<T: Steps, K: TableCodec, G: Gate>(
     Ok(())
 }
 
-// Makes the rows the instant's and appends the block of each target.
+// Makes the rows the instant's, shares them out and appends the block of each target.
 #[tactic(auto, using(table_jobs::proofs::Seen::goes_on))]
 fn write_rows<T: Steps, K: TableCodec, G: Gate>(
     alloc: Global,
@@ -238,11 +235,11 @@ fn write_rows<T: Steps, K: TableCodec, G: Gate>(
         (λ reply. IsWriterReply (entries_of (T.mine steps.new)) reply) }
 {
     let _ms = t.ms();
-    let Ok(rows) = rows_at(alloc, rows, t) else {
+    let Ok(parts) = parts_at(alloc, rows, t, targets) else {
         leave(steps, t);
         return Err(JobReply::Memory);
     };
-    append_all(alloc, steps, codec, t, targets, &rows, lane, gate)
+    append_all(alloc, steps, codec, t, targets, &parts, lane, gate)
 }
 
 /// Writes the rows of a batch as one deltacommit: it draws an instant, asks for the file groups of the rows' slots,
