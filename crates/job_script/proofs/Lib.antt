@@ -3,3 +3,4 @@ pub mod MemberParts
 pub mod PutParts
 pub mod RowTokens
 pub mod ScriptParts
+pub mod SizeParts

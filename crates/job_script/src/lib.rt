@@ -8,6 +8,7 @@
 
 mod job_lines;
 mod json_rows;
+mod laws;
 mod lines;
 mod marks;
 mod members;
@@ -17,6 +18,7 @@ mod script;
 mod values;
 
 pub use job_lines::put_job_text;
+pub use laws::scripts_have_sizes;
 pub use marks::put_mark_text;
 pub use rows::rows_of_input;
 pub use script::{InputRow, Line, ScriptError, ScriptJob, parse_script};

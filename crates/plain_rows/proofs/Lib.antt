@@ -1,0 +1,4 @@
+pub mod CellParts
+pub mod OrderParts
+pub mod ReadBack
+pub mod ReadParts

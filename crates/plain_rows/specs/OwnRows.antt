@@ -1,0 +1,15 @@
+-- The rows that a table of keys, ranks and bodies has. This project's own.
+use Rattle.std.specs.Prelude.{ℕ, ◌≤◌, length}
+use Rattle.payload_merge.specs.declared.row.Row.{Row}
+
+abbrev pub most_key_bytes : ℕ
+most_key_bytes = 1000
+
+abbrev pub most_body_bytes : ℕ
+most_body_bytes = 65_536
+
+-- a row with a key of 1 to 1,000 bytes and a body of at most 65,536
+pub record IsOwn (row : Row) : Type 0 where
+  pub key_from : 1 ≤ length row.key
+  pub key_to : length row.key ≤ most_key_bytes
+  pub body_to : length row.body ≤ most_body_bytes
