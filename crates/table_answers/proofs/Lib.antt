@@ -1,3 +1,5 @@
+pub mod Closed
+pub mod Batches
 pub mod Beginnings
 pub mod Made
 pub mod LogTexts

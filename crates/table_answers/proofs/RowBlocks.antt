@@ -55,12 +55,16 @@ pub record IsRowBlock (form : BlockForm) (b : PlacedBlock) : Type 0 where
   pub is : b.bytes ≡ block_bytes (Data b.t form.schema content)
   pub reads : data_writes form.reading (place_in form.table b.t only.group) content ≡ Ok (block_writes form (Some only) b.bytes)
 
-row_block : (form : BlockForm) (t writes : ℕ) (bytes : List ℕ) (rows : List Row) → HasRows form rows t only.group writes bytes → IsRowBlock form (record { t = t; bytes = bytes })
-row_block form t writes bytes rows has =
+-- the writes of a block of rows are their puts
+pub block_of_rows : (form : BlockForm) (t writes : ℕ) (bytes : List ℕ) (rows : List Row) → HasRows form rows t only.group writes bytes → block_writes form (Some only) bytes ≡ map Put rows
+block_of_rows form t writes bytes rows has =
     let there : block_at bytes ≡ Whole (Data t form.schema has.content) (length (block_bytes (Data t form.schema has.content))) =
     ap block_at (has.is ∙ sym (append-nil (block_bytes (Data t form.schema has.content)))) ∙ block_at_again (Data t form.schema has.content) [] has.fits in
-    let found : block_writes form (Some only) bytes ≡ map Put rows = ap (writes_read form only) there ∙ ap (λ read. or_none (puts_of read)) has.reads in
-    record { content = has.content; fits = has.fits; is = has.is; reads = ap puts_of has.reads ∙ ap Ok (sym found) }
+    ap (writes_read form only) there ∙ ap (λ read. or_none (puts_of read)) has.reads
+
+row_block : (form : BlockForm) (t writes : ℕ) (bytes : List ℕ) (rows : List Row) → HasRows form rows t only.group writes bytes → IsRowBlock form (record { t = t; bytes = bytes })
+row_block form t writes bytes rows has =
+    record { content = has.content; fits = has.fits; is = has.is; reads = ap puts_of has.reads ∙ ap Ok (sym (block_of_rows form t writes bytes rows has)) }
 
 carried : (form : BlockForm) (t writes : ℕ) (bytes : List ℕ) (o : Option Target) → IsSomeAnd o (λ s. (rows : List Row) × HasRows form rows t s.group writes bytes) → ((s : Target) → o ≡ Some s → s ≡ only)
     → IsRowBlock form (record { t = t; bytes = bytes })

@@ -116,7 +116,7 @@ module _ (form : BlockForm) (A : Table) (H : History) (opened : IsOpened A) (j :
   at_other : (t : ℕ) → (t == u) ≡ true → instant_of A H t ≡ instant_of A H u
   at_other t same = ap (instant_of A H) (number t u same)
 
-  same_writes : (s : Step) (r : Reply) → IsNoAppend s → May A H j s → Answers A H s r → Same s r
+  pub same_writes : (s : Step) (r : Reply) → IsNoAppend s → May A H j s → Answers A H s r → Same s r
   same_writes (Append t target writes bytes) r other may answers = absurd other
   same_writes Begin (reply.Began t) other may answers =
       begun_now form j n (t == u) o (λ here. sym (at_other t here) ∙ undrawn A H opened t answers)
@@ -152,8 +152,16 @@ order_quiet form A H j s r none same was times rises =
     ap (λ bs. flat_map (counted form times) (placed H ++ bs)) none ∙ ap (flat_map (counted form times)) (append-nil (placed H)) ∙ was times rises
     ∙ sym (same_each (writes_of form A (entry j s r ∷ H)) (writes_of form A H) times same)
 
-fresh_opened : (name : List ℕ) → IsOpened (fresh name)
+pub fresh_opened : (name : List ℕ) → IsOpened (fresh name)
 fresh_opened name t i is = let wrong : None ≡ Some i = is in cc
+
+-- a block more in an instant
+pub one_block_more : (form : BlockForm) (A : Table) (H : History) (j : Job) (t target writes version at : ℕ) (bytes : List ℕ) → IsAppending A H t target → (u : ℕ)
+    → writes_of form A (entry j (Append t target writes bytes) (reply.Placed version at) ∷ H) u ≡ writes_of form A H u ++ cond (t == u) (block_writes form (Some only) bytes) []
+one_block_more form A H j t target writes version at bytes to u =
+    more_writes form target writes bytes (t == u) (instant_of A H u)
+    (λ i here is. ap (λ (x : Instant). slice_get x.targets target) (some_same i to.i (sym is ∙ ap (instant_of A H) (sym (number t u here)) ∙ to.is)) ∙ to.to)
+    (λ here none. none_some (instant_of A H t) to.i to.is (ap (instant_of A H) (number t u here) ∙ none))
 
 module _ (form : BlockForm) (work : Work) (name : List ℕ) (H : History) (legal : IsLegal work (fresh name) H) (was : InOrder form (fresh name) H) (j : Job) where
   abbrev A : Table
@@ -169,17 +177,12 @@ module _ (form : BlockForm) (work : Work) (name : List ℕ) (H : History) (legal
     none_later : (u : ℕ) → t < u → writes_of form A H u ≡ []
     none_later u above = ap (instant_writes form) (undrawn A H (fresh_opened name) u (omega (arith, above, last)))
 
-    longer : (u : ℕ) → writes_of form A K u ≡ writes_of form A H u ++ cond (t == u) (block_writes form (Some only) bytes) []
-    longer u = more_writes form target writes bytes (t == u) (instant_of A H u)
-        (λ i here is. ap (λ (x : Instant). slice_get x.targets target) (some_same i to.i (sym is ∙ ap (instant_of A H) (sym (number t u here)) ∙ to.is)) ∙ to.to)
-        (λ here none. none_some (instant_of A H t) to.i to.is (ap (instant_of A H) (number t u here) ∙ none))
-
     order_placed : InOrder form A K
     order_placed times rises =
         flat_map-append (counted form times) (placed H) (b ∷ []) ∙ ap (λ ys. flat_map (counted form times) (placed H) ++ ys) (append-nil (counted form times b))
         ∙ ap (λ ys. ys ++ counted form times b) (was times rises)
         ∙ sym (last_more (writes_of form A H) t (block_writes form (Some only) bytes) none_later times rises)
-        ∙ sym (same_each (writes_of form A K) (λ u. writes_of form A H u ++ cond (t == u) (block_writes form (Some only) bytes) []) times longer)
+        ∙ sym (same_each (writes_of form A K) (λ u. writes_of form A H u ++ cond (t == u) (block_writes form (Some only) bytes) []) times (one_block_more form A H j t target writes version at bytes to))
 
   plain : (t : ℕ) → ArePlain (instant_of A H t)
   plain = instants_plain work name H legal

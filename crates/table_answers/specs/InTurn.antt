@@ -1,13 +1,13 @@
 -- Jobs that come one after another, as in one lane.
 use Rattle.std.specs.Prelude.{◌≡◌, ◌⊎◌, List, [], ◌∷◌, ◌++◌, slice_get, IsSomeAnd}
 use Rattle.std.specs.List.{AllByRecursion}
+use Rattle.hudi_base.specs.declared.file_group.Target.{Target}
+use Rattle.payload_merge.specs.declared.row.Row.{Row}
 use Rattle.table_history.specs.Histories.{History, own}
 use Rattle.table_history.specs.declared.entry.Entry.{Entry}
 use Rattle.table_history.specs.declared.job.Job.{Job}
 use Rattle.table_history.specs.declared.step.Step.{Step}
 use Rattle.table_history.specs.declared.step.Step.TheVariants.{Append}
-use Rattle.hudi_base.specs.declared.file_group.Target.{Target}
-use Rattle.payload_merge.specs.declared.row.Row.{Row}
 use Rattle.upsert_writer.specs.Blocks.{BlockForm, HasRows}
 use Rattle.upsert_writer.specs.WriterSteps.{targets_given}
 

@@ -1,22 +1,30 @@
 // Laws of answers, over the definitions of specs/. The functions do nothing: their clauses are the laws.
-ghost use Rattle.std.specs.Prelude.{ℕ, List, [], ◌++◌, Option};
+ghost use Rattle.std.specs.Prelude.{◌≡◌, ℕ, true, List, [], ◌++◌, map, Option};
 ghost use Rattle.std.specs.List.{AllByRecursion};
 ghost use Rattle.hudi_base.specs.Files.{FileMap};
+ghost use Rattle.hudi_base.specs.declared.file_group.GroupRef.{GroupRef};
 ghost use Rattle.payload_merge.specs.declared.row.Row.{Row};
+ghost use Rattle.payload_merge.specs.declared.row.Write.TheVariants.{Put};
 ghost use Rattle.table_board.specs.HonestRuns.{IsUndamaged};
 ghost use Rattle.table_core.specs.declared.job_reply.JobReply.{JobReply};
+ghost use Rattle.table_core.specs.declared.job_reply.JobReply.TheVariants.{Committed};
+ghost use Rattle.table_history.specs.Answers.{is_completed};
 ghost use Rattle.table_history.specs.Histories.{History};
 ghost use Rattle.table_history.specs.JobLaw.{IsLegal};
 ghost use Rattle.table_history.specs.Tables.{Table, fresh};
 ghost use Rattle.table_history.specs.declared.entry.Entry.{Entry};
 ghost use Rattle.table_history.specs.declared.job.Job.{Job};
 ghost use Rattle.table_images.specs.Blocks.{work_of};
+ghost use Rattle.table_images.specs.Numbers.{IsLive};
 ghost use Rattle.table_images.specs.Runs.{IsRun, Run, history_of};
+ghost use Rattle.table_jobs.specs.Replies.{IsWriterReply};
 ghost use Rattle.table_query.specs.Answers.{IsQueryReply};
 ghost use Rattle.table_query.specs.ReadBytes.{PinsAt};
+ghost use Rattle.upsert_writer.specs.BatchRows.{is_in_group, rows_from};
 ghost use Rattle.upsert_writer.specs.Blocks.{BlockForm};
 ghost use Rattle.upsert_writer.specs.WriterSteps.{WritesBatch};
 ghost use Rattle.table_answers.specs.InTurn.{CarriesForm, IsInTurn, IsMadeBy};
+ghost use Rattle.table_answers.specs.InstantWrites.{writes_of};
 ghost use Rattle.table_answers.specs.NamedRuns.{AllNamesFit};
 ghost use Rattle.table_answers.specs.Snapshots.{AnswersSnapshot};
 
@@ -63,4 +71,30 @@ pub fn snapshots_are_folds<W: Work>()
         → IsInTurn before → CarriesForm form before → AllByRecursion IsUndamaged mine
         → IsQueryReply (record { rows = form.reading; table = form.table }) at mine given
         → AnswersSnapshot form (fresh form.table) before at given }
+{}
+
+/// What a committed writer's instant wrote, where all rows of its batch lie in one live group: puts of them all, in
+/// their order, with the instant and their places. The instant is completed then.
+pub fn committed_batches<W: Work>()
+    ensures wrote { (form : BlockForm) (rows : List Row) (before after : History) (job : Job) (mine : List Entry)
+        (t : ℕ) (group : GroupRef) → IsMadeBy job before after mine
+        → IsLegal (work_of W.asks W.holds) (fresh form.table) after → WritesBatch form rows mine
+        → IsWriterReply mine (Committed t) → IsLive (fresh form.table) group
+        → AllByRecursion (λ row. is_in_group group row ≡ true) rows
+        → writes_of form (fresh form.table) after t ≡ map Put (rows_from t 0 rows) }
+    ensures completed { (form : BlockForm) (rows : List Row) (before after : History) (job : Job) (mine : List Entry)
+        (t : ℕ) → IsMadeBy job before after mine
+        → IsLegal (work_of W.asks W.holds) (fresh form.table) after → WritesBatch form rows mine
+        → IsWriterReply mine (Committed t) → is_completed (fresh form.table) after t ≡ true }
+{}
+
+/// A completed instant stays completed, and its writes stay as they are, whatever comes after.
+pub fn completed_instants_stay<W: Work>()
+    ensures completed { (name : List ℕ) (H : History) (t : ℕ) (more : List Entry)
+        → IsLegal (work_of W.asks W.holds) (fresh name) (more ++ H) → is_completed (fresh name) H t ≡ true
+        → is_completed (fresh name) (more ++ H) t ≡ true }
+    ensures wrote { (form : BlockForm) (H : History) (t : ℕ) (more : List Entry)
+        → IsLegal (work_of W.asks W.holds) (fresh form.table) (more ++ H)
+        → is_completed (fresh form.table) H t ≡ true
+        → writes_of form (fresh form.table) (more ++ H) t ≡ writes_of form (fresh form.table) H t }
 {}

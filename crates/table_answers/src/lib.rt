@@ -11,5 +11,6 @@
 mod laws;
 
 pub use laws::{
-    beginnings_are_legal, queries_carry_rows, snapshots_are_folds, turns_go_on, writers_carry_rows,
+    beginnings_are_legal, committed_batches, completed_instants_stay, queries_carry_rows,
+    snapshots_are_folds, turns_go_on, writers_carry_rows,
 };
