@@ -1,10 +1,12 @@
 #!/usr/bin/python3
-"""Has Apache Thrift's own Python library read what the crate parquet_meta writes: a footer and a page's header.
+"""Has Apache Thrift's own Python library read what the crates write: a footer and a page's header of parquet_meta, and
+the footer and the page headers of a base file of base_writer, whose pages the reader of base_cases.py reads.
 
-Run: interop_thrift.py PROGRAM, where PROGRAM is the built thrift_cases. tests/interop.sh runs it.
+Run: interop_thrift.py THRIFT_CASES BASE_CASES, the two built programs. tests/interop.sh runs it.
 It wants Debian's python3-thrift. It prints a line and ends with status 1 where the library isn't there, or reads anything
-but what the footer of thrift_cases (crates/thrift_cases/src/sample.rt) and the header of the Parquet format's
-example hold. The structs are those of parquet.thrift, with all the fields that may stand in such a footer.
+but what the footer of thrift_cases (crates/thrift_cases/src/sample.rt), the header of the Parquet format's example and the
+file of base_cases (crates/base_cases/src/written.rt) hold. The structs are those of parquet.thrift, with all the fields
+that may stand in such a footer.
 """
 import subprocess
 import sys
@@ -16,6 +18,8 @@ try:
 except ImportError:
     print("failed: no python3-thrift")
     sys.exit(1)
+
+from base_cases import answer
 
 I32, I64, STRUCT, LIST, STRING = TType.I32, TType.I64, TType.STRUCT, TType.LIST, TType.STRING
 
@@ -115,20 +119,78 @@ HEADER = {
 }
 
 
+
+
+def base_footer(first, second):
+    """The footer of the file of two rows, whose two pages take so many bytes."""
+    def chunk(name, kind, offset, size):
+        return {"file_offset": offset, "meta_data": {
+            "type": kind, "encodings": [0, 3], "path_in_schema": [name], "codec": 0, "num_values": 2,
+            "total_uncompressed_size": size, "total_compressed_size": size, "data_page_offset": offset}}
+    return {
+        "version": 1,
+        "schema": [
+            {"name": "schema", "num_children": 2},
+            {"type": 6, "repetition_type": 0, "name": "k", "converted_type": 0},
+            {"type": 1, "repetition_type": 1, "name": "v"},
+        ],
+        "num_rows": 2,
+        "row_groups": [{
+            "columns": [chunk("k", 6, 4, first), chunk("v", 1, 4 + first, second)],
+            "total_byte_size": first + second,
+            "num_rows": 2,
+        }],
+        "created_by": "hudi profile",
+    }
+
+
+BASE_ROWS = "a 1; b -"
+
+
+def page_header(size):
+    return {"type": 0, "uncompressed_page_size": size, "compressed_page_size": size, "data_page_header": {
+        "num_values": 2, "encoding": 0, "definition_level_encoding": 3, "repetition_level_encoding": 3}}
+
+
+def lines_of(program, given):
+    return subprocess.run([program], input=given, capture_output=True, text=True, check=True).stdout.splitlines()
+
+
+def written_parts(program):
+    """What the library has to read of a footer and of a page's header that are written by themselves."""
+    told = lines_of(program, f"written\nheader {HEADER_HEX}\n")
+    yield "footer", FileMetaData, bytes.fromhex(told[0]), FOOTER, 0
+    yield "page header", PageHeader, bytes.fromhex(told[1].rsplit(" written ", 1)[1]), HEADER, 0
+
+
+def base_parts(data):
+    """What it has to read of a base file: a page of two texts, one of levels and a number, and the footer."""
+    texts, optional = 2 * (4 + 1), 4 + 2 * 2 + 4
+    footer_at = len(data) - 8 - int.from_bytes(data[-8:-4], "little")
+    pages = data[4:footer_at]
+    first = len(pages) - len(read(PageHeader, pages)[1]) + texts
+    second = pages[first:]
+    yield "first page header of a base file", PageHeader, pages, page_header(texts), len(pages) - first + texts
+    yield "second page header of a base file", PageHeader, second, page_header(optional), optional
+    yield "footer of a base file", FileMetaData, data[footer_at:-8], base_footer(first, len(second)), 0
+
+
 def main():
-    program = sys.argv[1]
-    given = f"written\nheader {HEADER_HEX}\n"
-    told = subprocess.run([program], input=given, capture_output=True, text=True, check=True).stdout.splitlines()
-    footer = bytes.fromhex(told[0])
-    header = bytes.fromhex(told[1].rsplit(" written ", 1)[1])
+    thrift_cases, base_cases = sys.argv[1:]
+    data = bytes.fromhex(lines_of(base_cases, "written\n")[0])
     failed = 0
-    for name, cls, data, wanted in [("footer", FileMetaData, footer, FOOTER), ("page header", PageHeader, header, HEADER)]:
-        found, left = read(cls, data)
-        if found != wanted or left:
+    for name, cls, given, wanted, behind in list(written_parts(thrift_cases)) + list(base_parts(data)):
+        found, left = read(cls, given)
+        if found != wanted or len(left) != behind:
             failed = 1
             print(f"FAILED {name}: the library reads {found} and leaves {left.hex() or 'nothing'}")
         else:
-            print(f"ok: Thrift's library reads the {name} of {len(data)} bytes")
+            print(f"ok: Thrift's library reads the {name}, of {len(given) - len(left)} bytes")
+    if data[:4] != b"PAR1" or data[-4:] != b"PAR1" or answer(data) != BASE_ROWS:
+        failed = 1
+        print(f"FAILED pages of a base file: {answer(data)}")
+    else:
+        print(f"ok: a plain reader reads the rows of a base file of {len(data)} bytes")
     sys.exit(failed)
 
 

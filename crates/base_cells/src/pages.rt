@@ -9,25 +9,17 @@ ghost use Rattle.base_cells.specs.Answers.{Answers};
 use crate::base_error::{BaseCause, BaseError};
 use hudi_base::{Column, Values};
 use parquet_meta::{MetaError, PageHeader, read_page_header};
-use parquet_pages::{PageError, read_page};
+use parquet_pages::{PageError, read_page, strange_encoding};
 use sqlite_items::Items;
 use std::alloc::Global;
-
-/// The encoding of values that is known.
-const PLAIN: i32 = 0;
-/// The encoding of levels that is known.
-const RLE: i32 = 3;
 
 // Why a page is refused whose header says that it has too many cells.
 fn cause_of_many(column: &Column, header: &PageHeader) -> BaseCause
     ensures { result ≡ cause_of_many (strange_encoding column.now header.now) }
 {
-    if header.encoding != PLAIN {
-        BaseCause::Encoding(header.encoding)
-    } else if column.optional && header.def_encoding != RLE {
-        BaseCause::Encoding(header.def_encoding)
-    } else {
-        BaseCause::Page
+    match strange_encoding(column, header) {
+        Some(encoding) => BaseCause::Encoding(encoding),
+        None => BaseCause::Page,
     }
 }
 

@@ -3,6 +3,7 @@ use Rattle.std.proofs.Common.{◌≡◌, ℕ, zero, suc, ◌+◌, ◌*◌, ◌-�
 use Rattle.std.specs.List.{AllZip, AllByRecursion}
 use Rattle.std.proofs.lemmas.List.{append-nil, length-append, length-drop, length-take, take-append-drop, take_more}
 use Rattle.std.proofs.Common.{get_or}
+use Rattle.std.specs.Prelude.{Result, Ok, Err, IfOk}
 use Rattle.std.proofs.lemmas.List.{take-append-le, drop-append-le, drop_all, take_all}
 use Rattle.hudi_base.specs.declared.column.Column.{Column}
 use Rattle.hudi_base.specs.declared.value.Value.{Value}
@@ -13,7 +14,7 @@ use Rattle.parquet_meta.specs.Written.{file_meta_bytes}
 use Rattle.payload_merge.specs.declared.row.Row.{Row}
 use Rattle.base_cells.specs.Ends.{magic}
 use Rattle.base_cells.specs.Written.{group_len, grouped, groups_in, group_pages, groups_pages, group_of, groups_of, meta_of, file_bytes}
-use Rattle.base_writer.specs.Fitting.{AreGroupOf, end_bytes, meta_with}
+use Rattle.base_writer.specs.Fitting.{AreGroupOf, HasForm, end_bytes, meta_with}
 use Rattle.base_file.specs.WrittenRows.{Meaning, StandsFor, IsFileOf, IsPut, IsBegun, AreFull}
 
 -- ---- rows of cells beside rows
@@ -128,9 +129,9 @@ group_more m done front old new groups more full some few begun put =
           ∙ sym (ap (groups_of 4 m.columns) next ∙ groups_of_more 4 m.columns (groups_in begun.table) put.table);
     }
 
-pub file_ended : (m : Meaning) (columns : List Column) (rows done : List Row) (bytes file : List ℕ) (groups : List RowGroup) (count : ℕ) → columns ≡ m.columns → done ≡ rows → count ≡ length rows → IsBegun m done bytes groups → file ≡ bytes ++ end_bytes columns count groups → IsFileOf m rows file
+pub file_ended : (m : Meaning) (columns : List Column) (rows done : List Row) (bytes file : List ℕ) (groups : List RowGroup) (count : ℕ) → columns ≡ m.columns → done ≡ rows → count ≡ length rows → IsBegun m done bytes groups → file ≡ bytes ++ end_bytes columns count groups → HasForm (meta_with columns count groups) → IsFileOf m rows file
 unfolding file_bytes meta_of
-file_ended m columns rows done bytes file groups count e f n begun is =
+file_ended m columns rows done bytes file groups count e f n begun is form =
     let long = zip_long (StandsFor m) begun.table done begun.stand in
     let table_long : count ≡ length begun.table = n ∙ ap (length {A = Row}) (sym f) ∙ sym long in
     let pages = groups_pages m.columns (groups_in begun.table) in
@@ -142,7 +143,15 @@ file_ended m columns rows done bytes file groups count e f n begun is =
           ∙ ap (λ (cs : List Column). (magic ++ pages) ++ end_bytes cs count groups) e ∙ ap (λ (k : ℕ). (magic ++ pages) ++ end_bytes m.columns k groups) table_long
           ∙ ap (λ (gs : List RowGroup). (magic ++ pages) ++ end_bytes m.columns (length begun.table) gs) begun.groups_are
           ∙ sym (append_assoc (magic ++ pages) (footer ++ little_bytes 4 (length footer)) magic) ∙ ap (λ (x : List ℕ). x ++ magic) (sym (append_assoc (magic ++ pages) footer (little_bytes 4 (length footer))));
+      form = subst (λ (gs : List RowGroup). HasForm (meta_with m.columns (length begun.table) gs)) begun.groups_are
+          (subst (λ (k : ℕ). HasForm (meta_with m.columns k groups)) table_long
+          (subst (λ (cs : List Column). HasForm (meta_with cs count groups)) e form));
     }
+
+-- an answer of which two things hold
+pub ok_both : {T E : Type 0} (r : Result T E) (P Q : T → Type 0) → IfOk r P → IfOk r Q → IfOk r (λ x. P x × Q x)
+ok_both (Ok x) P Q p q = (p, q)
+ok_both (Err e) P Q p q = tt
 
 pub full_more : (done front : List Row) → AreFull done → length front ≡ group_len → AreFull (done ++ front)
 full_more done front full len = (suc full.0, omega (arith, length-append done front, full.1))

@@ -9,7 +9,8 @@ use Rattle.parquet_meta.specs.declared.row_group.RowGroup.{RowGroup}
 use Rattle.payload_merge.specs.declared.row.Row.{Row}
 use Rattle.payload_merge.specs.Contents.{CellsReading}
 use Rattle.base_cells.specs.Ends.{magic}
-use Rattle.base_cells.specs.Written.{group_len, group_pages, groups_pages, group_of, groups_of, groups_in, file_bytes}
+use Rattle.base_cells.specs.Written.{group_len, group_pages, groups_pages, group_of, groups_of, groups_in, meta_of, file_bytes}
+use Rattle.base_writer.specs.Fitting.{HasForm}
 
 -- what cells mean to a codec, and which column has the file id, in a file of this id
 pub record Meaning : Type 0 where
@@ -27,11 +28,12 @@ pub record StandsFor (m : Meaning) (cells : List Value) (row : Row) : Type 0 whe
   pub reads_back : m.reading row.partition cells ≡ Ok row
   pub names_the_file : slice_get cells m.place ≡ Some (Text m.file)
 
--- the written file of rows of cells that stand for these rows
+-- the written file of rows of cells that stand for these rows, whose footer has a written form
 pub record IsFileOf (m : Meaning) (rows : List Row) (bytes : List ℕ) : Type 0 where
   pub table : List (List Value)
   pub stand : AllZip (StandsFor m) table rows
   pub written : bytes ≡ file_bytes m.columns table
+  pub form : HasForm (meta_of m.columns table)
 
 -- ---- for private clauses
 

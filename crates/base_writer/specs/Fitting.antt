@@ -1,5 +1,5 @@
 -- What a file of cells is written of. This project's own.
-use Rattle.std.specs.Prelude.{◌≤◌, ℕ, pos, List, [], ◌∷◌, ◌++◌, length, map}
+use Rattle.std.specs.Prelude.{◌≤◌, ◌<◌, ◌^◌, ℕ, pos, List, [], ◌∷◌, ◌++◌, length, map}
 use Rattle.std.specs.List.{AllByRecursion}
 use Rattle.hudi_base.specs.declared.column.Column.{Column}
 use Rattle.hudi_base.specs.declared.value.Value.{Value}
@@ -9,7 +9,7 @@ use Rattle.byteorder.specs.Endian.{little_bytes}
 use Rattle.parquet_meta.specs.declared.element.Element.{Element}
 use Rattle.parquet_meta.specs.declared.row_group.RowGroup.{RowGroup}
 use Rattle.parquet_meta.specs.declared.file_meta.FileMeta.{FileMeta}
-use Rattle.parquet_meta.specs.Written.{file_meta_bytes}
+use Rattle.parquet_meta.specs.Written.{FitsFileMeta, file_meta_bytes}
 use Rattle.base_cells.specs.Ends.{magic}
 use Rattle.base_cells.specs.Written.{group_len, leaf_of, root_of}
 
@@ -38,6 +38,11 @@ meta_with columns rows groups = record {
   num_rows = pos rows;
   groups = groups;
 }
+
+-- the footer has a written form, whose length four bytes can tell
+pub record HasForm (meta : FileMeta) : Type 0 where
+  pub fits : FitsFileMeta meta
+  pub short : length (file_meta_bytes meta) < 2 ^ 32
 
 -- what stands behind the pages: the footer, its length and the last four bytes
 abbrev pub end_bytes : List Column → ℕ → List RowGroup → List ℕ

@@ -5,7 +5,7 @@ ghost use Rattle.parquet_meta.specs.Written.{IsShort, FitsElement, FitsChunk, Fi
 ghost use Rattle.base_cells.specs.Columns.{repetition_of};
 ghost use Rattle.base_cells.specs.Ends.{magic};
 ghost use Rattle.base_cells.specs.Written.{leaf_of, root_of};
-ghost use Rattle.base_writer.specs.Fitting.{schema_with, end_bytes};
+ghost use Rattle.base_writer.specs.Fitting.{HasForm, schema_with, meta_with, end_bytes};
 
 use crate::groups::signed;
 use byte_fields::put_u32;
@@ -122,7 +122,8 @@ fn fits_meta(meta: &FileMeta) -> bool
 
 // The bytes of a footer. One that has no written form is refused as want of memory, which it would take.
 fn footer_of(alloc: Global, meta: &FileMeta) -> Result<Bytes, AllocError>
-    ensures { IfOk result (λ footer. footer ≡ file_meta_bytes meta.now) }
+    ensures bytes { IfOk result (λ footer. footer ≡ file_meta_bytes meta.now) }
+    ensures fits { IfOk result (λ _. FitsFileMeta meta.now) }
 {
     if !fits_meta(meta) {
         return Err(AllocError);
@@ -149,7 +150,8 @@ pub fn finish(
     groups: RowGroups,
     bytes: Vec<u8>,
 ) -> Result<Bytes, AllocError>
-    ensures { IfOk result (λ file. file ≡ bytes.items ++ end_bytes columns.now num_rows groups) }
+    ensures bytes { IfOk result (λ file. file ≡ bytes.items ++ end_bytes columns.now num_rows groups) }
+    ensures form { IfOk result (λ _. HasForm (meta_with columns.now num_rows groups)) }
 {
     let schema = schema_of(alloc, columns.as_slice())?;
     let meta = FileMeta {

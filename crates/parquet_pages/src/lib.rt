@@ -18,5 +18,5 @@ pub use laws::{
     levels_are_runs, pages_are_read, written_levels_are_read, written_pages_are_read, written_sizes,
 };
 pub use levels::{levels_read, levels_write};
-pub use page::{read_page, write_page};
+pub use page::{read_page, strange_encoding, write_page};
 pub use page_error::PageError;

@@ -93,8 +93,9 @@ fn page_cells(
     }
 }
 
-// The encoding that isn't known: of the values first, then of the levels.
-fn strange_encoding(column: &Column, header: &PageHeader) -> Option<i32>
+/// The encoding that a page of the column has and that isn't known, if it has one: that of its values first, then that of
+/// its levels. Known are PLAIN (0) for values and RLE (3) for levels, which only an optional column has.
+pub fn strange_encoding(column: &Column, header: &PageHeader) -> Option<i32>
     ensures { result ≡ strange_encoding column.now header.now }
 {
     if header.encoding != PLAIN {

@@ -6,9 +6,9 @@ use Rattle.std.proofs.lemmas.Result.{IfOk-weaker}
 use Rattle.parquet_meta.specs.declared.row_group.RowGroup.{RowGroup}
 use Rattle.payload_merge.specs.declared.row.Row.{Row}
 use Rattle.base_cells.specs.Written.{group_len}
-use Rattle.base_writer.specs.Fitting.{end_bytes}
+use Rattle.base_writer.specs.Fitting.{HasForm, end_bytes, meta_with}
 use Rattle.base_file.specs.WrittenRows.{meaning, IsFileOf}
-use Rattle.base_file.proofs.WriteLemmas.{nothing_yet, group_more, file_ended, full_more, all_done, parts_again}
+use Rattle.base_file.proofs.WriteLemmas.{nothing_yet, group_more, file_ended, full_more, all_done, parts_again, ok_both}
 use Rattle.base_file.proofs.writing.file_of.Goals as goal
 
 pub loop-rest-init : goal.loop-rest-init
@@ -52,6 +52,11 @@ returns g c =
     let m = meaning (g.K.RowCodec.columns c.args.codec.now) (g.K.RowCodec.base_row c.args.codec.now) (g.K.RowCodec.file_column c.args.codec.now) c.args.file.now in
     let inv = c.loop-rest.invariant in
     let none : length c.loop-rest.rest.now ≡ 0 = eqb-true _ _ (sym c.loop-rest-test.ensures) in
-    IfOk-weaker c.finish.result (λ (file : List ℕ). file ≡ c.loop-rest.bytes.items ++ end_bytes c.columns.result.now (length c.args.rows.now) c.from_vec.result) (λ (file : List ℕ). IsFileOf m c.args.rows.now file)
-    (λ file is. file_ended m c.columns.result.now c.args.rows.now inv.0 c.loop-rest.bytes.items file c.loop-rest.groups.items (length c.args.rows.now) c.columns.ensures (all_done inv.0 c.loop-rest.rest.now c.args.rows.now inv.1 none) refl inv.2 (subst (λ (groups : List RowGroup). file ≡ c.loop-rest.bytes.items ++ end_bytes c.columns.result.now (length c.args.rows.now) groups) c.from_vec.ensures is))
-    c.finish.ensures
+    let groups = c.from_vec.result in
+    IfOk-weaker c.finish.result
+    (λ (file : List ℕ). (file ≡ c.loop-rest.bytes.items ++ end_bytes c.columns.result.now (length c.args.rows.now) groups) × HasForm (meta_with c.columns.result.now (length c.args.rows.now) groups))
+    (λ (file : List ℕ). IsFileOf m c.args.rows.now file)
+    (λ file is. file_ended m c.columns.result.now c.args.rows.now inv.0 c.loop-rest.bytes.items file c.loop-rest.groups.items (length c.args.rows.now) c.columns.ensures (all_done inv.0 c.loop-rest.rest.now c.args.rows.now inv.1 none) refl inv.2
+        (subst (λ (groups : List RowGroup). file ≡ c.loop-rest.bytes.items ++ end_bytes c.columns.result.now (length c.args.rows.now) groups) c.from_vec.ensures is.0)
+        (subst (λ (groups : List RowGroup). HasForm (meta_with c.columns.result.now (length c.args.rows.now) groups)) c.from_vec.ensures is.1))
+    (ok_both c.finish.result (λ (file : List ℕ). file ≡ c.loop-rest.bytes.items ++ end_bytes c.columns.result.now (length c.args.rows.now) groups) (λ (file : List ℕ). HasForm (meta_with c.columns.result.now (length c.args.rows.now) groups)) c.finish.ensures.bytes c.finish.ensures.form)

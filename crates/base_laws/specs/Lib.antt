@@ -1,0 +1,2 @@
+pub mod BaseForm
+pub mod Written
