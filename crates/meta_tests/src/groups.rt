@@ -9,6 +9,9 @@ use std::test::*;
 
 const TABLE: &str = "t";
 
+// The rest of a file id's UUID, behind its slots.
+const TAIL: &str = "4f01-52df-a6be-557d177dca72";
+
 // Names and lengths, with the log versions out of order, a base file that nothing names, one of a group that is gone,
 // and a file of the timeline.
 const FILES: [(&str, u64); 11] = [
@@ -262,6 +265,39 @@ fn groups_without_slots_have_views(rt: HostRuntime) -> Result<(), Fail> {
         Ok(views) => {
             let text = slots_and_logs(alloc, views.as_slice())?;
             assert_eq!(rt; text.as_str(), " 0:0 5:2 32768:1");
+        }
+        Err(_) => assert!(rt; false),
+    }
+    Ok(())
+}
+
+fn push_log(alloc: Global, number: u32, files: &mut Vec<(FileName, u64)>) -> Result<(), Fail> {
+    let slots = if number % 2 == 0 { "00007fff" } else { "8000ffff" };
+    let version = number / 2 + 1;
+    let name = format!(in alloc; "x/.{slots}-{TAIL}-0_20000101000000000.log.{version}_0-0-{number}")?;
+    files.push((file_of(alloc, name.as_str())?, 1))?;
+    Ok(())
+}
+
+// A folder with so many logs of the two groups in turn.
+fn many_logs(alloc: Global, count: u32) -> Result<Vec<(FileName, u64)>, Fail> {
+    let mut files = Vec::new(alloc);
+    for number in 0..count {
+        push_log(alloc, number, &mut files)?;
+    }
+    Ok(files)
+}
+
+#[test]
+fn long_listings_have_views(rt: HostRuntime) -> Result<(), Fail> {
+    let alloc = rt.alloc();
+    let table = Name::from_text(alloc, TABLE)?;
+    let tiles = tiles(alloc)?;
+    let files = many_logs(alloc, 65536)?;
+    match view_of(alloc, &table, &tiles, &files, &[]) {
+        Ok(views) => {
+            let text = slots_and_logs(alloc, views.as_slice())?;
+            assert_eq!(rt; text.as_str(), " 0:32768 32768:32768");
         }
         Err(_) => assert!(rt; false),
     }

@@ -55,10 +55,47 @@ fn read_from<F: Read + Seek + OpenFile + Drop>(
     Ok(bytes)
 }
 
-/// Makes a whole file with these bytes under its temporary path, and renames it where its own path is free. Says
-/// whether it was. A temporary file that is left behind is overwritten by the next call.
+/// Makes a file with these bytes where its path is free. Says whether it was. An empty file is whole as soon as it is there;
+/// another one is written under its temporary path and renamed. A temporary file that is left behind is overwritten by the
+/// next call.
 pub fn make_file<R: Files>(rt: &R, temporary: &str, path: &str, bytes: &[u8]) -> io::Result<bool> {
-    write_whole(rt, temporary, bytes)?;
+    if bytes.is_empty() {
+        make_empty(rt, path)
+    } else {
+        make_written(rt, temporary, path, bytes)
+    }
+}
+
+// Makes an empty file. There is nothing in it to be synced: its name is, with the folder.
+fn make_empty<R: Files>(rt: &R, path: &str) -> io::Result<bool> {
+    let folder = folder_of(path);
+    let made = match create_new(rt, path) {
+        Err(error) if error.kind() == ErrorKind::NotFound => {
+            make_folders(rt, folder)?;
+            create_new(rt, path)
+        }
+        answer => answer,
+    };
+    match made {
+        Ok(()) => {
+            sync_folder(rt, folder)?;
+            Ok(true)
+        }
+        Err(error) if error.kind() == ErrorKind::AlreadyExists => Ok(false),
+        Err(error) => Err(error),
+    }
+}
+
+// Makes a file that isn't there, in a folder that is.
+fn create_new<R: Files>(rt: &R, path: &str) -> io::Result<()> {
+    OpenOptions::new().write(true).create_new(true).open(rt, path)?;
+    Ok(())
+}
+
+// Makes a file whole under its temporary path, and renames it where its own path is free.
+fn make_written<R: Files>(rt: &R, temporary: &str, path: &str, bytes: &[u8]) -> io::Result<bool> {
+    make_folders(rt, folder_of(temporary))?;
+    write_synced(fs::create(rt, temporary)?, bytes)?;
     if where_found(fs::symlink_metadata(rt, path))?.is_some() {
         return Ok(false);
     }
@@ -69,21 +106,25 @@ pub fn make_file<R: Files>(rt: &R, temporary: &str, path: &str, bytes: &[u8]) ->
     Ok(true)
 }
 
-// Writes a file, over one that is there.
-fn write_whole<R: Files>(rt: &R, path: &str, bytes: &[u8]) -> io::Result<()> {
-    make_folders(rt, folder_of(path))?;
-    let mut file = fs::create(rt, path)?;
+// Writes bytes to a file, and sees to it that they outlive a loss of power.
+fn write_synced<F: Write + OpenFile + Drop>(mut file: F, bytes: &[u8]) -> io::Result<()> {
     file.write_all(bytes)?;
     file.sync_all()
 }
 
 /// Adds bytes at the end of a file, and makes it where it is absent.
 pub fn append_bytes<R: Files>(rt: &R, path: &str, bytes: &[u8]) -> io::Result<()> {
+    match where_found(OpenOptions::new().append(true).open(rt, path))? {
+        Some(file) => write_synced(file, bytes),
+        None => append_first(rt, path, bytes),
+    }
+}
+
+// Makes a file of the first bytes that are added to it.
+fn append_first<R: Files>(rt: &R, path: &str, bytes: &[u8]) -> io::Result<()> {
     let folder = folder_of(path);
     make_folders(rt, folder)?;
-    let mut file = OpenOptions::new().append(true).create(true).open(rt, path)?;
-    file.write_all(bytes)?;
-    file.sync_all()?;
+    write_synced(OpenOptions::new().append(true).create(true).open(rt, path)?, bytes)?;
     sync_folder(rt, folder)
 }
 

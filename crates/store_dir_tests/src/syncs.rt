@@ -29,10 +29,12 @@ fn files_and_their_folders_are_synced(rt: HostRuntime) -> Result<(), Fail> {
              write to /s/.hoodie/.temp/new\nsync /s/.hoodie/.temp/new\nmake /s/a\nsync /s\n\
              rename to /s/a/b\nsync /s/a\n",
         ),
+        (Call::Create("a/e", ""), "sync /s/a\n"),
         (
             Call::Append("c/d", "1"),
             "make /s/c\nsync /s\nwrite to /s/c/d\nsync /s/c/d\nsync /s/c\n",
         ),
+        (Call::Append("c/d", "2"), "write to /s/c/d\nsync /s/c/d\n"),
         (Call::Remove("c/d"), "remove /s/c/d\nsync /s/c\n"),
         (Call::Remove("c/d"), "remove /s/c/d\n"),
     ];
