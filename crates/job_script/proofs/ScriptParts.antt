@@ -1,7 +1,7 @@
 -- A script, one line after another.
-use Rattle.std.proofs.Common.{◌≡◌, ℕ, suc, ◌+◌, ◌<◌, ◌≤◌, List, [], ◌∷◌, ◌++◌, length, get_or, drop, Option, Some, None, option_map, Result, Ok, Err, refl, sym, ap, ◌∙◌, append_assoc, add-one, drop-cons, IsUtf8}
+use Rattle.std.proofs.Common.{◌≡◌, ℕ, suc, ◌+◌, ◌<◌, ◌≤◌, List, [], ◌∷◌, ◌++◌, length, get_or, drop, Option, Some, None, option_map, Result, Ok, Err, refl, sym, ap, ◌∙◌, append_assoc, add-one, drop-cons, IsUtf8, Bool, true, false, ◌&&◌, leb}
 use Rattle.std.proofs.lemmas.List.{append-nil, drop_all}
-use Rattle.std.proofs.lemmas.Bool.{false_from_ne_true}
+use Rattle.std.proofs.lemmas.Bool.{false_from_ne_true, le-leb}
 use Rattle.std.proofs.lemmas.Str.{IsUtf8-from_is_utf8, is_utf8-from_IsUtf8}
 use Rattle.std.specs.Str.{is_utf8}
 use Rattle.serde_json.specs.Data.{Data, Items, no_items, item}
@@ -9,7 +9,7 @@ use Rattle.serde_json.specs.Events.{items_len}
 use Rattle.serde_json.specs.Read.{read}
 use Rattle.serde_json.specs.View.{view, items_view}
 use Rattle.serde_json.specs.declared.value.Value.{Value}
-use Rattle.job_script.specs.Script.{json_of, row_of, rows_of, with_job}
+use Rattle.job_script.specs.Script.{is_sized, json_of, most_body_bytes, most_key_bytes, row_of, rows_of, with_job}
 use Rattle.job_script.specs.declared.script.InputRow.{InputRow}
 use Rattle.job_script.specs.declared.script.ScriptJob.{ScriptJob}
 
@@ -88,3 +88,12 @@ unfolding json_of
 json_of_none line none = rw (false_from_ne_true (is_utf8 line) (λ passes. none (IsUtf8-from_is_utf8 line passes))) refl
 
 pub ruleset reading = (rows_more, rows_stop, rows_start, rows_end, items_len-items_view, json_of_text, json_of_none, with_jobs-one, with_jobs-none)
+
+-- texts by their type need no test
+pub sized_texts : (key body : List ℕ) → 1 ≤ length key → length key ≤ most_key_bytes → IsUtf8 key → IsUtf8 body → leb (length body) most_body_bytes ≡ is_sized key body
+sized_texts key body some few is is_body =
+    sym (rw (le-leb 1 (length key) some, le-leb (length key) most_key_bytes few, is_utf8-from_IsUtf8 key is, is_utf8-from_IsUtf8 body is_body) (two_true (leb (length body) most_body_bytes)))
+  where
+    two_true : (b : Bool) → (b && true && true) ≡ b
+    two_true true = refl
+    two_true false = refl

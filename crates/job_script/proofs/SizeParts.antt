@@ -3,6 +3,8 @@ use Rattle.std.proofs.Common.{◌≡◌, ℕ, suc, ◌+◌, Bool, true, false, �
 use Rattle.std.specs.Prelude.{ℤ, IfOk, IfSome, if◌then◌else◌, option_and_then}
 use Rattle.std.proofs.lemmas.Bool.{and_parts, leb-true}
 use Rattle.std.proofs.lemmas.List.Elements.{All-nil, All-cons}
+use Rattle.std.proofs.lemmas.Str.{IsUtf8-from_is_utf8}
+use Rattle.std.specs.Str.{is_utf8}
 use Rattle.std.proofs.lemmas.Result.{IfOk-at_ok}
 use Rattle.serde_json.specs.Data.{Data, Items, no_items, item}
 use Rattle.serde_json.specs.Events.{items_len}
@@ -40,11 +42,22 @@ if_any None = tt
 parts_sized : (key : Option (List ℕ)) (rank : Option ℤ) (body : Option (List ℕ)) → IfSome (row_of_parts key rank body) IsSized
 unfolding row_of_parts
 parts_sized (Some key) (Some rank) (Some body) =
-    if_passes IsSized (leb 1 (length key) && leb (length key) most_key_bytes && leb (length body) most_body_bytes) (Some (record { key = key; rank = rank; body = body }))
+    let from = leb 1 (length key) in
+    let to = leb (length key) most_key_bytes in
+    let body_to = leb (length body) most_body_bytes in
+    if_passes IsSized (from && to && body_to && is_utf8 key && is_utf8 body) (Some (record { key = key; rank = rank; body = body }))
     (λ passes.
-    let both = and_parts (leb 1 (length key) && leb (length key) most_key_bytes) (leb (length body) most_body_bytes) passes in
-    let bounds = and_parts (leb 1 (length key)) (leb (length key) most_key_bytes) both.0 in
-    record { key_from = leb-true _ _ bounds.0; key_to = leb-true _ _ bounds.1; body_to = leb-true _ _ both.1 })
+    let texts = and_parts (from && to && body_to && is_utf8 key) (is_utf8 body) passes in
+    let first = and_parts (from && to && body_to) (is_utf8 key) texts.0 in
+    let both = and_parts (from && to) body_to first.0 in
+    let bounds = and_parts from to both.0 in
+    record {
+      key_from = leb-true _ _ bounds.0;
+      key_to = leb-true _ _ bounds.1;
+      body_to = leb-true _ _ both.1;
+      key_text = IsUtf8-from_is_utf8 key first.1;
+      body_text = IsUtf8-from_is_utf8 body texts.1;
+    })
 parts_sized (Some key) (Some rank) None = tt
 parts_sized (Some key) None body = tt
 parts_sized None rank body = tt

@@ -1,5 +1,5 @@
 -- The rows of an upsert as rows of a table.
-use Rattle.std.specs.Prelude.{◌≡◌, ℕ, ◌≤◌, List, length, codes, Ok, All}
+use Rattle.std.specs.Prelude.{◌≡◌, ℕ, ◌≤◌, List, IsUtf8, length, codes, Ok, All}
 use Rattle.hudi_base.specs.InstantTime.{first_time}
 use Rattle.payload_merge.specs.declared.row.Row.{Row}
 use Rattle.job_script.specs.Script.{most_body_bytes, most_key_bytes, most_rows, script_of}
@@ -21,11 +21,13 @@ row_of_input row = record {
 
 -- ---- sizes
 
--- a row whose key and body are as long as they may be
+-- a row whose key and body are texts, as long as they may be
 pub record IsSized (row : InputRow) : Type 0 where
   pub key_from : 1 ≤ length row.key
   pub key_to : length row.key ≤ most_key_bytes
   pub body_to : length row.body ≤ most_body_bytes
+  pub key_text : IsUtf8 row.key
+  pub body_text : IsUtf8 row.body
 
 -- as many such rows as an upsert may have
 pub record AreSized (rows : List InputRow) : Type 0 where

@@ -47,12 +47,16 @@ whole_number_at name value = option_and_then as_i64 (option_and_then as_number (
 abbrev pub items_at : List ℕ → Data → Option Items
 items_at name value = option_and_then as_array (get name value)
 
--- a row of these parts, where key and body have lengths that a row may have
+-- a key and a body of a row: texts that are as long as these may be
+abbrev pub is_sized : List ℕ → List ℕ → Bool
+is_sized key body =
+    nat_le 1 (length key) && nat_le (length key) most_key_bytes && nat_le (length body) most_body_bytes
+    && is_utf8 key && is_utf8 body
+
+-- a row of these parts
 unfoldable pub row_of_parts : Option (List ℕ) → Option ℤ → Option (List ℕ) → Option InputRow
 row_of_parts (Some key) (Some rank) (Some body) =
-    if nat_le 1 (length key) && nat_le (length key) most_key_bytes && nat_le (length body) most_body_bytes
-    then Some (record { key = key; rank = rank; body = body })
-    else None
+    if is_sized key body then Some (record { key = key; rank = rank; body = body }) else None
 row_of_parts _ _ _ = None
 
 -- a row is an object with exactly a key, a rank and a body

@@ -1,7 +1,7 @@
 // What the JSON value of a line says.
 ghost use Rattle.std.specs.Prelude.{◌≡◌, ◌≤◌, ◌&&◌, nat_le, IfOk, option_and_then, option_map};
 ghost use Rattle.serde_json.specs.View.{view, items_view};
-ghost use Rattle.job_script.specs.Script.{is_job, json_of, line_of, most_rows};
+ghost use Rattle.job_script.specs.Script.{is_job, is_sized, json_of, line_of, most_rows};
 ghost use Rattle.job_script.specs.Script.{row_of, row_of_parts, rows_of, upsert_of};
 
 use crate::members::{has_members, items_at, text_at, whole_number_at};
@@ -15,6 +15,13 @@ const MOST_ROWS: usize = 100_000;
 const MOST_KEY_BYTES: usize = 1000;
 
 const MOST_BODY_BYTES: usize = 65_536;
+
+// Whether key and body are as long as they may be. They are texts by their type.
+fn is_sized(key: &str, body: &str) -> bool
+    ensures { result ≡ is_sized key.now body.now }
+{
+    !key.is_empty() && key.len() <= MOST_KEY_BYTES && body.len() <= MOST_BODY_BYTES
+}
 
 // A row of these parts, if it is within the limits.
 #[tactic(auto, unfolding(crate::specs::Script::row_of_parts))]
@@ -30,7 +37,7 @@ fn row_of_parts(
     let (Some(key), Some(rank), Some(body)) = (key, rank, body) else {
         return Ok(None);
     };
-    if key.is_empty() || key.len() > MOST_KEY_BYTES || body.len() > MOST_BODY_BYTES {
+    if !is_sized(key, body) {
         return Ok(None);
     }
     Ok(Some(InputRow {

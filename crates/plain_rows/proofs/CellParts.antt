@@ -8,7 +8,9 @@ use Rattle.hudi_base.specs.declared.value.Value.{Value}
 use Rattle.hudi_base.specs.declared.value.Value.TheVariants as value
 use Rattle.payload_merge.specs.declared.row.Row.{Row}
 use Rattle.plain_rows.specs.Cells.{place_of, rank_of, row_in, row_of_cells, sized_of, time_of}
-use Rattle.plain_rows.specs.OwnRows.{IsOwn, most_body_bytes, most_key_bytes}
+use Rattle.plain_rows.specs.OwnRows.{IsOwn, is_sized_text, most_body_bytes, most_key_bytes}
+use Rattle.plain_rows.proofs.ReadBack.{sized_is}
+use Rattle.std.specs.Str.{IsUtf8}
 
 passes : {A : Type 0} (test : Bool) (x : A) → test ≡ true → (if test then Some x else None) ≡ Some x
 passes test x is = rw is refl
@@ -21,16 +23,15 @@ place_again : (seq : ℕ) → seq < 2 ^ 32 → place_of (value.Long (pos seq)) �
 unfolding place_of
 place_again seq small = let test : ltb seq (2 ^ 32) ≡ true = grind (arith, common_steps) in passes (ltb seq (2 ^ 32)) seq test
 
-sized_again : (least most : ℕ) (bytes : List ℕ) → least ≤ length bytes → length bytes ≤ most → sized_of least most (value.Bytes bytes) ≡ Some bytes
+sized_again : (least most : ℕ) (bytes : List ℕ) → least ≤ length bytes → length bytes ≤ most → IsUtf8 bytes → sized_of least most (value.Bytes bytes) ≡ Some bytes
 unfolding sized_of
-sized_again least most bytes from to =
-    passes (leb least (length bytes) && leb (length bytes) most) bytes (and_from (leb least (length bytes)) (leb (length bytes) most) (le-leb _ _ from) (le-leb _ _ to))
+sized_again least most bytes from to is = passes (is_sized_text least most bytes) bytes (sized_is least most bytes from to is)
 
 pub cells_again : (row : Row) (file : List ℕ) → IsOwn row → IsTime row.commit → row.seq < 2 ^ 32
     → row_in row.partition (value.Text file ∷ value.Long (pos row.commit) ∷ value.Long (pos row.seq) ∷ value.Bytes row.key ∷ value.Long row.rank ∷ value.Bytes row.body ∷ []) ≡ Ok row
 unfolding row_in row_of_cells rank_of
 cells_again row file own is_time small =
-    rw (time_again row.commit is_time, place_again row.seq small, sized_again 1 most_key_bytes row.key own.key_from own.key_to, sized_again 0 most_body_bytes row.body (omega arith) own.body_to) refl
+    rw (time_again row.commit is_time, place_again row.seq small, sized_again 1 most_key_bytes row.key own.key_from own.key_to own.key_text, sized_again 0 most_body_bytes row.body (omega arith) own.body_to own.body_text) refl
 
 -- six cells, by their places
 pub six_cells : (partition : List ℕ) (cells : List Value) (commit seq key rank body : Value) → length cells ≡ 6

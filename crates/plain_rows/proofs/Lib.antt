@@ -2,3 +2,4 @@ pub mod CellParts
 pub mod OrderParts
 pub mod ReadBack
 pub mod ReadParts
+pub mod TextParts

@@ -6,6 +6,8 @@ use Rattle.std.specs.List.{flat_map}
 use Rattle.std.proofs.lemmas.Bool.{and_from, and_parts, eqb-true, le-leb}
 use Rattle.std.proofs.lemmas.Int.{to_z-of_z}
 use Rattle.std.proofs.lemmas.List.{append-nil}
+use Rattle.std.proofs.lemmas.Str.{is_utf8-from_IsUtf8}
+use Rattle.std.specs.Str.{IsUtf8, is_utf8}
 use Rattle.std.proofs.lemmas.List.Elements.{All-head, All-tail}
 use Rattle.byteorder.specs.Endian.{big_bytes, big_number}
 use Rattle.byte_fields.specs.Numbers.{number_at, signed_at}
@@ -19,7 +21,7 @@ use Rattle.block_contents.specs.Contents.{with_offset}
 use Rattle.payload_merge.specs.Contents.{AreRowsOf, DataPlace}
 use Rattle.payload_merge.specs.declared.row.Row.{Row}
 use Rattle.plain_rows.specs.Contents.{are_in_order, content_at, content_bytes, place_at, place_bytes, row_at, row_bytes, rows_at, rows_in, sized_at, told_at, told_bytes, version}
-use Rattle.plain_rows.specs.OwnRows.{IsOwn, most_body_bytes, most_key_bytes}
+use Rattle.plain_rows.specs.OwnRows.{IsOwn, is_sized_text, most_body_bytes, most_key_bytes}
 use Rattle.plain_rows.specs.Readers.{IsInRange}
 
 -- ---- fields
@@ -34,14 +36,17 @@ rank_again rank rest fits =
     bind_is (number_at big_number 8 (big_bytes 8 (cast_unsigned w64 rank) ++ rest)) (cast_unsigned w64 rank, rest) _ (number_at_again big_number big_bytes 8 (cast_unsigned w64 rank) rest big8 (cast_unsigned-below rank fits))
     ∙ ap (λ (z : ℤ). let found : Reading ℤ = Ok (z, rest) in found) (to_z-of_z w64 rank fits)
 
-sized_again : (least most : ℕ) (text rest : List ℕ) → least ≤ length text → length text ≤ most → most < 2 ^ 32 → sized_at least most (with_length (big_bytes 4) text ++ rest) ≡ Ok (text, rest)
+pub sized_is : (least most : ℕ) (text : List ℕ) → least ≤ length text → length text ≤ most → IsUtf8 text → is_sized_text least most text ≡ true
+sized_is least most text from to is =
+    and_from (leb least (length text) && leb (length text) most) (is_utf8 text) (and_from (leb least (length text)) (leb (length text) most) (le-leb _ _ from) (le-leb _ _ to)) (is_utf8-from_IsUtf8 text is)
+
+sized_again : (least most : ℕ) (text rest : List ℕ) → least ≤ length text → length text ≤ most → IsUtf8 text → most < 2 ^ 32 → sized_at least most (with_length (big_bytes 4) text ++ rest) ≡ Ok (text, rest)
 unfolding sized_at
-sized_again least most text rest from to small =
+sized_again least most text rest from to is small =
     let bytes = with_length (big_bytes 4) text ++ rest in
-    let passes : (leb least (length text) && leb (length text) most) ≡ true = and_from (leb least (length text)) (leb (length text) most) (le-leb _ _ from) (le-leb _ _ to) in
-    bind_is (prefixed_at (number_at big_number 4) bytes) (text, rest) (λ found. only_if (leb least (length found.0) && leb (length found.0) most) bytes found)
+    bind_is (prefixed_at (number_at big_number 4) bytes) (text, rest) (λ found. only_if (is_sized_text least most found.0) bytes found)
     (prefixed_at_again (number_at big_number 4) (big_bytes 4) text rest (number_length big_number big_bytes 4 (length text) big4 (omega arith)))
-    ∙ only_if_is (leb least (length text) && leb (length text) most) bytes (text, rest) passes
+    ∙ only_if_is (is_sized_text least most text) bytes (text, rest) (sized_is least most text from to is)
 
 place_again : (told : Bool) (place seq : ℕ) (rest : List ℕ) → seq < 2 ^ 32 → (told ≡ false → seq ≡ place) → place_at told place (place_bytes told seq ++ rest) ≡ Ok (seq, rest)
 unfolding place_at
@@ -65,9 +70,9 @@ row_again told place row rest own range stands =
     ∙ ap (λ (t : List ℕ). place_bytes told row.seq ++ t) (append_assoc key (rank ++ body) rest ∙ ap (λ (t : List ℕ). key ++ t) (append_assoc rank body rest)) in
     ap (row_at row.commit row.partition told place) grouped
     ∙ bind_is (place_at told place (place_bytes told row.seq ++ after0)) (row.seq, after0) _ (place_again told place row.seq after0 range.seq stands)
-    ∙ bind_is (sized_at 1 most_key_bytes after0) (row.key, after1) _ (sized_again 1 most_key_bytes row.key after1 own.key_from own.key_to (omega arith))
+    ∙ bind_is (sized_at 1 most_key_bytes after0) (row.key, after1) _ (sized_again 1 most_key_bytes row.key after1 own.key_from own.key_to own.key_text (omega arith))
     ∙ bind_is (signed_at big_number w64 8 after1) (row.rank, after2) _ (rank_again row.rank after2 range.rank)
-    ∙ bind_is (sized_at 0 most_body_bytes after2) (row.body, rest) _ (sized_again 0 most_body_bytes row.body rest (omega arith) own.body_to (omega arith))
+    ∙ bind_is (sized_at 0 most_body_bytes after2) (row.body, rest) _ (sized_again 0 most_body_bytes row.body rest (omega arith) own.body_to own.body_text (omega arith))
 
 -- where places aren't told, the rows stand in order
 abbrev Stand : Bool → ℕ → List Row → Type 0

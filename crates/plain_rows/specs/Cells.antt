@@ -6,7 +6,7 @@ use Rattle.hudi_base.specs.declared.value.Value.{Value}
 use Rattle.hudi_base.specs.declared.value.Value.TheVariants as value
 use Rattle.payload_merge.specs.Contents.{CellsReading}
 use Rattle.payload_merge.specs.declared.row.Row.{Row}
-use Rattle.plain_rows.specs.OwnRows.{most_body_bytes, most_key_bytes}
+use Rattle.plain_rows.specs.OwnRows.{is_sized_text, most_body_bytes, most_key_bytes}
 
 -- ---- columns
 
@@ -48,10 +48,10 @@ unfoldable pub rank_of : Value → Option ℤ
 rank_of (value.Long rank) = Some rank
 rank_of _ = None
 
--- bytes in a cell, at least and at most so many
+-- a text in a cell of bytes, of at least and at most so many
 unfoldable pub sized_of : ℕ → ℕ → Value → Option (List ℕ)
 sized_of least most (value.Bytes bytes) =
-    if nat_le least (length bytes) && nat_le (length bytes) most then Some bytes else None
+    if is_sized_text least most bytes then Some bytes else None
 sized_of least most _ = None
 
 -- the row that cells say, or the place of the first that says nothing

@@ -2,6 +2,8 @@
 use Rattle.std.proofs.Common.{◌≡◌, ℕ, zero, suc, ◌+◌, ◌≤◌, Bool, true, false, ◌&&◌, leb, eqb, List, [], ◌∷◌, length, Result, Ok, Err, All, subst, refl, arith, ◌++◌, ◌<◌}
 use Rattle.std.specs.Prelude.{ℤ, if◌then◌else◌, IfOk, IsTrue, Option, Some, None}
 use Rattle.std.specs.Int.{w64}
+use Rattle.std.specs.Str.{IsUtf8, is_utf8}
+use Rattle.std.proofs.lemmas.Str.{IsUtf8-from_is_utf8}
 use Rattle.std.proofs.lemmas.Bool.{and_parts, leb-true}
 use Rattle.std.proofs.lemmas.List.Elements.{All-nil, All-cons, All-from_recursion, All-weaker}
 use Rattle.std.proofs.lemmas.Result.{IfOk-weaker}
@@ -18,7 +20,7 @@ use Rattle.payload_merge.specs.Contents.{AreRowsOf, DataPlace}
 use Rattle.payload_merge.specs.declared.row.Row.{Row}
 use Rattle.plain_rows.specs.Cells.{place_of, rank_of, row_in, row_of_cells, sized_of, the_columns, time_of}
 use Rattle.plain_rows.specs.Contents.{content_at, place_at, row_at, rows_at, rows_in, sized_at, told_at}
-use Rattle.plain_rows.specs.OwnRows.{IsOwn, most_body_bytes, most_key_bytes}
+use Rattle.plain_rows.specs.OwnRows.{IsOwn, is_sized_text, most_body_bytes, most_key_bytes}
 
 -- ---- steps
 
@@ -42,18 +44,22 @@ record IsRead (instant : ℕ) (partition : List ℕ) (row : Row) : Type 0 where
   at : row.commit ≡ instant
   lies : row.partition ≡ partition
 
-record IsSized (least most : ℕ) (text : List ℕ) : Type 0 where
-  from : least ≤ length text
-  to : length text ≤ most
+record IsSized (least most : ℕ) (bytes : List ℕ) : Type 0 where
+  from : least ≤ length bytes
+  to : length bytes ≤ most
+  text : IsUtf8 bytes
+
+sized_from : (least most : ℕ) (bytes : List ℕ) → is_sized_text least most bytes ≡ true → IsSized least most bytes
+sized_from least most bytes passes =
+    let all = and_parts (leb least (length bytes) && leb (length bytes) most) (is_utf8 bytes) passes in
+    let both = and_parts (leb least (length bytes)) (leb (length bytes) most) all.0 in
+    record { from = leb-true _ _ both.0; to = leb-true _ _ both.1; text = IsUtf8-from_is_utf8 bytes all.1 }
 
 sized_read : (least most : ℕ) (bytes : List ℕ) → IfOk (sized_at least most bytes) (λ x. IsSized least most x.0)
 unfolding sized_at
 sized_read least most bytes =
     if_then (λ x. Unit {0}) (λ x. IsSized least most x.0) (prefixed_at (number_at big_number 4) bytes) _ (if_any (prefixed_at (number_at big_number 4) bytes))
-    (λ text any. if_passes (λ x. IsSized least most x.0) (leb least (length text.0) && leb (length text.0) most) bytes text
-    (λ passes.
-    let both = and_parts (leb least (length text.0)) (leb (length text.0) most) passes in
-    record { from = leb-true _ _ both.0; to = leb-true _ _ both.1 }))
+    (λ text any. if_passes (λ x. IsSized least most x.0) (is_sized_text least most text.0) bytes text (sized_from least most text.0))
 
 row_read : (instant : ℕ) (partition : List ℕ) (told : Bool) (place : ℕ) (bytes : List ℕ) → IfOk (row_at instant partition told place bytes) (λ x. IsRead instant partition x.0)
 unfolding row_at
@@ -64,7 +70,7 @@ row_read instant partition told place bytes =
     (λ key keyed. if_then (λ x. Unit {0}) Q (signed_at big_number w64 8 key.1) _ (if_any (signed_at big_number w64 8 key.1))
     (λ rank any. if_then (λ x. IsSized 0 most_body_bytes x.0) Q (sized_at 0 most_body_bytes rank.1) _ (sized_read 0 most_body_bytes rank.1)
     (λ body bodied. record {
-      own = record { key_from = keyed.from; key_to = keyed.to; body_to = bodied.to };
+      own = record { key_from = keyed.from; key_to = keyed.to; body_to = bodied.to; key_text = keyed.text; body_text = bodied.text };
       at = refl;
       lies = refl;
     }))))
@@ -116,9 +122,8 @@ only_own false own bytes said = absurd cc
 sized_said : (least most : ℕ) (cell : Value) (bytes : List ℕ) → sized_of least most cell ≡ Some bytes → IsSized least most bytes
 unfolding sized_of
 sized_said least most (value.Bytes own) bytes said =
-    let found = only_own (leb least (length own) && leb (length own) most) own bytes said in
-    let both = and_parts (leb least (length own)) (leb (length own) most) found.0 in
-    subst (IsSized least most) found.1 (record { from = leb-true _ _ both.0; to = leb-true _ _ both.1 })
+    let found = only_own (is_sized_text least most own) own bytes said in
+    subst (IsSized least most) found.1 (sized_from least most own found.0)
 sized_said least most _ bytes said = absurd cc
 
 parts_own : (partition : List ℕ) (commit seq : Option ℕ) (key : Option (List ℕ)) (rank : Option ℤ) (body : Option (List ℕ))
@@ -133,7 +138,7 @@ parts_own partition (Some commit) (Some seq) (Some key) (Some rank) None keyed b
 parts_own partition (Some commit) (Some seq) (Some key) (Some rank) (Some body) keyed bodied =
     let k = keyed key refl in
     let b = bodied body refl in
-    (record { key_from = k.from; key_to = k.to; body_to = b.to }, refl)
+    (record { key_from = k.from; key_to = k.to; body_to = b.to; key_text = k.text; body_text = b.text }, refl)
 
 pub own_in_bases : (partition : List ℕ) (cells : List Value) → IfOk (row_in partition cells) (λ row. IsOwn row × (row.partition ≡ partition))
 unfolding row_in

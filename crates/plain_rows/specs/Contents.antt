@@ -1,5 +1,5 @@
 -- The contents of data blocks, all numbers with the greatest byte first. This project's own.
-use Rattle.std.specs.Prelude.{ℕ, zero, suc, ◌+◌, ◌==◌, ◌&&◌, ◌||◌, nat_le, not, Bool, true, false, if◌then◌else◌, ℤ, List, [], ◌∷◌, ◌++◌, length, flat_map, Result, Ok, IsOk}
+use Rattle.std.specs.Prelude.{ℕ, zero, suc, ◌+◌, ◌==◌, ◌&&◌, ◌||◌, not, Bool, true, false, if◌then◌else◌, ℤ, List, [], ◌∷◌, ◌++◌, length, flat_map, Result, Ok, IsOk}
 use Rattle.std.specs.Int.{cast_unsigned, w64}
 use Rattle.byteorder.specs.Endian.{big_bytes, big_number}
 use Rattle.byte_fields.specs.Numbers.{number_at, signed_at}
@@ -9,7 +9,7 @@ use Rattle.byte_fields.specs.declared.field_error.FieldError.{FieldError}
 use Rattle.block_contents.specs.Contents.{with_offset}
 use Rattle.payload_merge.specs.Contents.{DataPlace, DataReading}
 use Rattle.payload_merge.specs.declared.row.Row.{Row}
-use Rattle.plain_rows.specs.OwnRows.{most_body_bytes, most_key_bytes}
+use Rattle.plain_rows.specs.OwnRows.{is_sized_text, most_body_bytes, most_key_bytes}
 
 -- ---- what is written
 
@@ -50,11 +50,11 @@ told_at bytes = do
   version ← number_at big_number 4 bytes
   only_if ((version.0 == 3) || (version.0 == 4)) bytes (version.0 == 4, version.1)
 
--- so many bytes behind their length
+-- a text of at least and at most so many bytes, behind its length
 unfoldable pub sized_at : ℕ → ℕ → List ℕ → Reading (List ℕ)
 sized_at least most bytes = do
   text ← prefixed_at (number_at big_number 4) bytes
-  only_if (nat_le least (length text.0) && nat_le (length text.0) most) bytes text
+  only_if (is_sized_text least most text.0) bytes text
 
 -- the place that is told, or this one
 unfoldable pub place_at : Bool → ℕ → List ℕ → Reading ℕ

@@ -7,6 +7,7 @@ ghost use Rattle.plain_rows.specs.Cells.{bytes_column, number_column, place_of, 
 ghost use Rattle.plain_rows.specs.Cells.{row_of_cells, sized_of, the_columns, time_of};
 
 use crate::reading::{MOST_BODY_BYTES, MOST_KEY_BYTES};
+use crate::texts::is_sized_text;
 use hudi_base::{Bytes, Column, Columns, InstantTime, Name, Value, Values};
 use payload_merge::{Row, RowError};
 use std::alloc::{AllocError, Global};
@@ -103,7 +104,7 @@ fn rank_of(cell: &Value) -> Option<i64>
     }
 }
 
-// The bytes that a cell says, at least and at most so many.
+// The text that a cell of bytes says, of at least and at most so many.
 #[tactic(auto, unfolding(crate::specs::Cells::sized_of))]
 fn sized_of(least: usize, most: usize, cell: &Value) -> Option<&[u8]>
     ensures { option_map (λ bytes. bytes.now) result ≡ sized_of least most cell.now }
@@ -111,7 +112,7 @@ fn sized_of(least: usize, most: usize, cell: &Value) -> Option<&[u8]>
     match cell {
         Value::Bytes(bytes) => {
             let bytes = bytes.as_slice();
-            if least <= bytes.len() && bytes.len() <= most {
+            if is_sized_text(least, most, bytes) {
                 Some(bytes)
             } else {
                 None

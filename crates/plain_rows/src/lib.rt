@@ -10,6 +10,7 @@ mod codec;
 mod owned;
 mod read_error;
 mod reading;
+mod texts;
 mod writing;
 
 pub use codec::PlainRows;

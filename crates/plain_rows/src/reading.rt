@@ -7,6 +7,7 @@ ghost use Rattle.plain_rows.specs.Contents.{content_at, place_at, row_at, rows_a
 ghost use Rattle.plain_rows.specs.Readers.{Reads, puts_if_read, row_of, with_before};
 
 use crate::read_error::ReadError;
+use crate::texts::is_sized_text;
 use byte_fields::{FieldError, i64_at, u32_at, u32_prefixed_at};
 use byteorder::BigEndian;
 use hudi_base::InstantTime;
@@ -33,13 +34,13 @@ fn told_at(bytes: &[u8]) -> Result<(bool, &[u8]), FieldError>
     }
 }
 
-// At least and at most so many bytes, behind their length.
+// A text of at least and at most so many bytes, behind its length.
 #[tactic(auto, unfolding(crate::specs::Contents::sized_at))]
 fn sized_at(least: usize, most: usize, bytes: &[u8]) -> Result<(&[u8], &[u8]), FieldError>
     ensures { Gives (λ x. (x.0.now, x.1.now)) result (sized_at least most bytes.now) }
 {
     let (text, rest) = u32_prefixed_at::<BigEndian>(bytes)?;
-    if text.len() < least || text.len() > most {
+    if !is_sized_text(least, most, text) {
         return Err(FieldError::bad(bytes));
     }
     Ok((text, rest))
