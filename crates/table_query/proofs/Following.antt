@@ -1,14 +1,17 @@
 -- What some things give, one behind another, and what it makes of a table.
-use Rattle.std.proofs.Common.{◌≡◌, ◌<◌, ◌≤◌, ◌+◌, ℕ, List, [], ◌∷◌, ◌++◌, length, take, drop, get_or, Result, Ok, Err, refl, sym, ap, ◌∙◌, subst, arith, append_assoc, append-nil, take-append-drop, length-take, length-append, zero, suc}
+use Rattle.std.proofs.Common.{◌≡◌, ◌<◌, ◌≤◌, ◌+◌, ℕ, List, [], ◌∷◌, ◌++◌, length, map, take, drop, get_or, Result, Ok, Err, refl, sym, ap, ◌∙◌, subst, arith, append_assoc, append-nil, take-append-drop, length-take, length-append, zero, suc}
 use Rattle.std.specs.List.{flat_map}
 use Rattle.table_history.specs.declared.view.GroupParts.{GroupParts}
-use Rattle.std.proofs.lemmas.List.{take_more}
+use Rattle.std.proofs.lemmas.List.{map-append, take_more}
+use Rattle.std.specs.FinMap.{empty}
 use Rattle.payload_merge.specs.Fold.{RowTable, table_after, table_after_all}
+use Rattle.payload_merge.specs.RowRefs.{write_in}
 use Rattle.payload_merge.specs.declared.row.Write.{Write}
+use Rattle.payload_merge.specs.declared.row_refs.WriteRef.{WriteRef}
 use Rattle.table_query.specs.GroupReading.{followed_by, all_from, one_each, files_in}
-use Rattle.table_query.specs.Parts.{Folds}
+use Rattle.table_query.specs.Parts.{Folds, lent_table}
 
-none_after : {B E : Type 0} (a : Result (List B) E) → followed_by a (Ok []) ≡ a
+pub none_after : {B E : Type 0} (a : Result (List B) E) → followed_by a (Ok []) ≡ a
 none_after (Ok xs) = ap Ok (append-nil xs)
 none_after (Err e) = refl
 
@@ -58,13 +61,18 @@ sizes-one size one (x ∷ xs) = let first = one x in let rest = sizes-one size o
 
 -- ---- tables
 
-after_two : (xs ys : List Write) (table : RowTable) → table_after_all table (xs ++ ys) ≡ table_after_all (table_after_all table xs) ys
+pub after_two : (xs ys : List Write) (table : RowTable) → table_after_all table (xs ++ ys) ≡ table_after_all (table_after_all table xs) ys
 after_two [] ys table = refl
 after_two (x ∷ xs) ys table = after_two xs ys (table_after table x)
 
 -- one write more
 pub one_write : (xs : List Write) (x : Write) (table : RowTable) → table_after_all table (xs ++ x ∷ []) ≡ table_after (table_after_all table xs) x
 one_write xs x table = after_two xs (x ∷ []) table
+
+-- borrowed writes behind others
+pub lent_more : (partition : List ℕ) (xs ys : List WriteRef) → lent_table partition (xs ++ ys) ≡ table_after_all (lent_table partition xs) (map (write_in partition) ys)
+lent_more partition xs ys =
+    ap (table_after_all empty) (map-append (write_in partition) xs ys) ∙ after_two (map (write_in partition) xs) (map (write_in partition) ys) empty
 
 pub folded_on : {E : Type 0} (a b : Result (List Write) E) (old middle new : RowTable) → Folds a old middle → Folds b middle new → Folds (followed_by a b) old new
 folded_on (Err e) b old middle new first then = absurd first

@@ -2,6 +2,7 @@ pub mod TimeSets
 pub mod Following
 pub mod Pieces
 pub mod Leaving
+pub mod LentWrites
 pub mod NextFiles
 pub mod Stops
 pub mod Same

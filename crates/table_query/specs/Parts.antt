@@ -1,10 +1,13 @@
 -- What the parts of a query answer. Only private clauses cite this.
-use Rattle.std.specs.Prelude.{◌≡◌, ℕ, List, [], ◌∷◌, get_or, Result, Ok, Err}
+use Rattle.std.specs.Prelude.{◌≡◌, ℕ, List, [], ◌∷◌, get_or, map, Result, Ok, Err}
 use Rattle.std.specs.FinMap.{empty}
-use Rattle.payload_merge.specs.Fold.{RowTable, table_after_all}
+use Rattle.payload_merge.specs.Fold.{RowTable, rows_of, table_after_all}
+use Rattle.payload_merge.specs.RowRefs.{write_in}
+use Rattle.payload_merge.specs.declared.row.Row.{Row}
 use Rattle.payload_merge.specs.declared.row.Write.{Write}
 use Rattle.payload_merge.specs.declared.row_error.RowError.{RowError}
 use Rattle.payload_merge.specs.declared.row_error.RowError.TheVariants.{BadContent, Memory}
+use Rattle.payload_merge.specs.declared.row_refs.WriteRef.{WriteRef}
 use Rattle.table_core.specs.declared.job_reply.JobReply.{JobReply}
 use Rattle.table_core.specs.declared.job_reply.JobReply.TheVariants as job
 use Rattle.table_query.specs.GroupReading.{Damage}
@@ -51,7 +54,20 @@ abbrev pub GivesLog : Result PartLog JobReply → Result (List PartLog) Damage �
 GivesLog (Ok log) found = found ≡ Ok (log ∷ [])
 GivesLog (Err error) found = IsErrorOf error found
 
--- a view's rows
-abbrev pub GivesRows : Result RowTable JobReply → Result (List Write) Damage → Type 0
-GivesRows (Ok rows) found = Folds found empty rows
+-- a view's rows, as a table
+abbrev pub GivesTable : Result RowTable JobReply → Result (List Write) Damage → Type 0
+GivesTable (Ok rows) found = Folds found empty rows
+GivesTable (Err error) found = IsErrorOf error found
+
+-- the rows that the writes found leave where there was none, in the order of their keys
+abbrev pub LeavesRows : {E : Type 0} → Result (List Write) E → List Row → Type 0
+LeavesRows (Ok writes) rows = rows ≡ rows_of (table_after_all empty writes)
+LeavesRows (Err error) rows = ⊥
+
+abbrev pub GivesRows : Result (List Row) JobReply → Result (List Write) Damage → Type 0
+GivesRows (Ok rows) found = LeavesRows found rows
 GivesRows (Err error) found = IsErrorOf error found
+
+-- what borrowed writes to a partition leave where there was no row
+abbrev pub lent_table : List ℕ → List WriteRef → RowTable
+lent_table partition writes = table_after_all empty (map (write_in partition) writes)

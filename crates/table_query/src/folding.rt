@@ -4,7 +4,7 @@ ghost use Rattle.std.specs.List.{flat_map};
 ghost use Rattle.file_names.specs.FileId.{file_id};
 ghost use Rattle.payload_merge.specs.Fold.{table_after_all};
 ghost use Rattle.table_query.specs.GroupReading.{block_gives, block_writes, counts, group_writes, in_part, log_writes, logs_writes, view_writes};
-ghost use Rattle.table_query.specs.Parts.{GivesBlock, GivesFold, GivesRows, text_at};
+ghost use Rattle.table_query.specs.Parts.{GivesBlock, GivesFold, GivesTable, text_at};
 
 use crate::logs::{PartLog, damaged, logs_of, voided};
 use crate::times::{has_time, set_of};
@@ -62,8 +62,12 @@ fn fold_block<K: TableCodec>(
     }
 }
 
-// Whether a block counts.
-fn counts(completed: &BTreeSet<InstantTime>, void: &BTreeSet<InstantTime>, block: &Block) -> bool
+/// Whether a block counts.
+pub(crate) fn counts(
+    completed: &BTreeSet<InstantTime>,
+    void: &BTreeSet<InstantTime>,
+    block: &Block,
+) -> bool
     ensures { result ≡ counts completed.now.keys void.now.keys block.now }
 {
     match block {
@@ -203,7 +207,7 @@ pub(crate) fn fold_view<K: TableCodec>(
     texts: &[Bytes],
 ) -> Result<RowMap, JobReply>
     requires { length (flat_map (λ g. g.parts) view.now.groups) ≤ length texts.now }
-    ensures { GivesRows result (view_writes (record { rows = K.block_rows codec.now; table = K.table_name codec.now }) view.now.completed (text_at texts.now) view.now.groups) }
+    ensures { GivesTable result (view_writes (record { rows = K.block_rows codec.now; table = K.table_name codec.now }) view.now.completed (text_at texts.now) view.now.groups) }
 {
     let Ok(completed) = set_of(alloc, view.completed.as_slice()) else {
         return Err(JobReply::Memory);

@@ -1,16 +1,19 @@
 // The snapshot.
-ghost use Rattle.std.specs.Prelude.{◌≡◌, ℕ, [], Option, MatchResult};
+ghost use Rattle.std.specs.Prelude.{◌≡◌, ◌≤◌, ℕ, [], Option, MatchResult, length};
+ghost use Rattle.std.specs.List.{flat_map};
 ghost use Rattle.table_history.specs.JobLaw.{GoesOn, entries_of, phase};
 ghost use Rattle.table_query.specs.Answers.{IsQueryReply};
-ghost use Rattle.table_query.specs.GroupReading.{TableReading};
-ghost use Rattle.table_query.specs.Parts.{text_at};
+ghost use Rattle.table_query.specs.GroupReading.{TableReading, view_writes};
+ghost use Rattle.table_query.specs.Parts.{GivesRows, text_at};
 ghost use Rattle.table_query.specs.ReadBytes.{PinsAt};
 ghost use Rattle.table_query.specs.Reading.{HasFailed, MayLeave};
 ghost use Rattle.table_query.specs.Snapshots.{HasPinned, HasReadView, HasTexts, HasUnpinned, MakesReply};
 
 use crate::folding::fold_view;
+use crate::lending::lent_rows;
 use crate::reading::{read_all, sizes_of};
 use hudi_base::{Bytes, Gate, InstantTime, Place};
+use payload_merge::Rows;
 use std::alloc::Global;
 use table_core::JobReply;
 use table_history::{Reply, Step, Steps, View};
@@ -69,16 +72,36 @@ fn read_view<T: Steps>(alloc: Global, steps: &mut T, view: &View) -> Result<Vec<
     read_all(alloc, steps, view.pin, &sizes)
 }
 
+// The rows that a view's files leave, whose bytes these are, in the order of their keys. Where the codec lends what the
+// blocks hold they are sorted once; else each write is folded into a map.
+fn rows_of_view<K: TableCodec>(
+    alloc: Global,
+    codec: &K,
+    view: &View,
+    texts: &[Bytes],
+) -> Result<Rows, JobReply>
+    requires { length (flat_map (λ g. g.parts) view.now.groups) ≤ length texts.now }
+    ensures { GivesRows result (view_writes (record { rows = K.block_rows codec.now; table = K.table_name codec.now }) view.now.completed (text_at texts.now) view.now.groups) }
+{
+    if let Some(rows) = lent_rows(alloc, codec, view, texts) {
+        return Ok(rows);
+    }
+    match fold_view(alloc, codec, view, texts) {
+        Ok(rows) => match rows.rows(alloc) {
+            Ok(rows) => Ok(rows),
+            Err(_) => Err(JobReply::Memory),
+        },
+        Err(reply) => Err(reply),
+    }
+}
+
 // The answer that the bytes of a view's files make.
 fn reply_of<K: TableCodec>(alloc: Global, codec: &K, view: &View, texts: &[Bytes]) -> JobReply
     requires { HasTexts view.now texts.now }
     ensures { MakesReply (record { rows = K.block_rows codec.now; table = K.table_name codec.now }) view.now (text_at texts.now) result }
 {
-    match fold_view(alloc, codec, view, texts) {
-        Ok(rows) => match rows.rows(alloc) {
-            Ok(rows) => JobReply::Rows(view.t, rows),
-            Err(_) => JobReply::Memory,
-        },
+    match rows_of_view(alloc, codec, view, texts) {
+        Ok(rows) => JobReply::Rows(view.t, rows),
         Err(reply) => reply,
     }
 }
