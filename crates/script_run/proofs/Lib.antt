@@ -1,0 +1,16 @@
+pub mod Batched
+pub mod Blocks
+pub mod Closing
+pub mod EndParts
+pub mod Endings
+pub mod FromBoard
+pub mod Journals
+pub mod LaterBoards
+pub mod Meanings
+pub mod Runs
+pub mod Sizes
+pub mod Snapshots
+pub mod Tellings
+pub mod Turns
+pub mod TwoWords
+pub mod WholeRuns

@@ -1,0 +1,81 @@
+-- What a job's own entries tell of damage and of faults.
+use Rattle.std.proofs.Common.{◌≡◌, ℕ, ◌+◌, ◌≤◌, List, [], ◌∷◌, Option, Some, None, IfSome, Result, Ok, Err, sym, ap, subst, arith}
+use Rattle.std.specs.List.{AllByRecursion}
+use Rattle.job_script.specs.declared.script.Line.{Line}
+use Rattle.job_script.specs.declared.script.Line.TheVariants.{Upsert, Snapshot}
+use Rattle.payload_merge.specs.declared.row.Write.{Write}
+use Rattle.table_board.specs.Boards.{fault_of, faults_among}
+use Rattle.table_board.specs.HonestRuns.{IsUndamaged, IsUndamagedReply}
+use Rattle.table_core.specs.declared.job_reply.JobReply.{JobReply}
+use Rattle.table_core.specs.declared.job_reply.JobReply.TheVariants as job
+use Rattle.table_history.specs.Histories.{History}
+use Rattle.table_history.specs.declared.entry.Entry.{Entry}
+use Rattle.table_history.specs.declared.reply.Reply.{Reply}
+use Rattle.table_history.specs.declared.reply.Reply.TheVariants as reply
+use Rattle.table_history.specs.declared.view.View.{View}
+use Rattle.table_jobs.specs.Replies.{IsTold, ending, first_of_two, told}
+use Rattle.table_query.specs.Answers.{IsAnswer, reply_with}
+use Rattle.table_query.specs.GroupReading.{Damage, TableReading}
+use Rattle.table_query.specs.ReadBytes.{bytes_read, pinned}
+use Rattle.upsert_writer.specs.Blocks.{BlockForm}
+use Rattle.script_run.specs.Lines.{AnswersLine}
+use Rattle.script_run.specs.Runs.{IsSnapshotOf, IsUndamagedAnswer}
+
+-- ---- damage
+
+ending_undamaged : (r : Reply) (other : Option JobReply) → IsUndamagedReply r → IfSome other IsUndamagedAnswer → IfSome (first_of_two (ending r) other) IsUndamagedAnswer
+ending_undamaged (reply.Completed t) other whole before = tt
+ending_undamaged (reply.NotCompleted t) other whole before = tt
+ending_undamaged reply.TimeOver other whole before = tt
+ending_undamaged reply.Fault other whole before = tt
+ending_undamaged (reply.Damaged name cause) other whole before = absurd whole
+ending_undamaged r other whole before = before
+
+pub told_undamaged : (mine : List Entry) → AllByRecursion IsUndamaged mine → IfSome (told mine) IsUndamagedAnswer
+told_undamaged [] all = tt
+told_undamaged (e ∷ mine) all = ending_undamaged e.reply (told mine) all.0 (told_undamaged mine all.1)
+
+as_told : (o : Option JobReply) (given : JobReply) → IsTold o given → IfSome o IsUndamagedAnswer → IsUndamagedAnswer given
+as_told (Some answer) given is whole = subst IsUndamagedAnswer (sym is) whole
+as_told None given is whole = subst IsUndamagedAnswer (sym is) tt
+
+snapshot_undamaged : (form : BlockForm) (H : History) (given : JobReply) → IsSnapshotOf form Snapshot H given → IsUndamagedAnswer given
+snapshot_undamaged form H (job.Damaged name cause at) is = absurd is
+snapshot_undamaged form H given is = tt
+
+pub line_undamaged : (form : BlockForm) (line : Line) (mine : List Entry) (H : History) (given : JobReply) → AllByRecursion IsUndamaged mine → AnswersLine form line mine given → IsSnapshotOf form line H given
+    → IsUndamagedAnswer given
+line_undamaged form (Upsert rows) mine H given all answers is = as_told (told mine) given answers.answers.told (told_undamaged mine all)
+line_undamaged form Snapshot mine H given all answers is = snapshot_undamaged form H given is
+
+-- ---- faults
+
+ending_fault : (r : Reply) (other : Option JobReply) (n : ℕ) → first_of_two (ending r) other ≡ Some job.Fault → (other ≡ Some job.Fault → 1 ≤ n) → 1 ≤ n + fault_of r
+ending_fault (reply.Completed t) other n is before = cc
+ending_fault (reply.NotCompleted t) other n is before = cc
+ending_fault reply.TimeOver other n is before = cc
+ending_fault reply.Fault other n is before = omega arith
+ending_fault (reply.Damaged name cause) other n is before = cc
+ending_fault r other n is before = let some = before is in omega (arith, some)
+
+told_fault : (mine : List Entry) → told mine ≡ Some job.Fault → 1 ≤ faults_among mine
+told_fault [] is = cc
+told_fault (e ∷ mine) is = ending_fault e.reply (told mine) (faults_among mine) is (told_fault mine)
+
+as_told_fault : (o : Option JobReply) → IsTold o job.Fault → o ≡ Some job.Fault
+as_told_fault (Some answer) is = ap Some (sym is)
+as_told_fault None is = cc
+
+not_made : (t : Option ℕ) (writes : Result (List Write) Damage) → job.Fault ≡ reply_with t writes → ⊥
+not_made t (Ok writes) is = cc
+not_made t (Err damage) is = cc
+
+as_answered_fault : (reading : TableReading) (o : Option JobReply) (view : Option View) (bytes : ℕ → List ℕ) → IsAnswer reading o view bytes job.Fault → o ≡ Some job.Fault
+as_answered_fault reading (Some answer) view bytes is = ap Some (sym is)
+as_answered_fault reading None None bytes is = cc
+as_answered_fault reading None (Some view) bytes is = absurd (not_made view.t _ is.1)
+
+pub line_fault : (form : BlockForm) (line : Line) (mine : List Entry) → AnswersLine form line mine job.Fault → 1 ≤ faults_among mine
+line_fault form (Upsert rows) mine answers = told_fault mine (as_told_fault (told mine) answers.answers.told)
+line_fault form Snapshot mine answers =
+    told_fault mine (as_answered_fault (record { rows = form.reading; table = form.table }) (told mine) (pinned mine) (bytes_read mine) answers.answer)

@@ -1,0 +1,6 @@
+pub mod Batches
+pub mod Ends
+pub mod Lines
+pub mod Outcome
+pub mod Parts
+pub mod Runs

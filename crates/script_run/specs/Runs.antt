@@ -1,0 +1,96 @@
+-- What a run of a script is, for its jobs in one lane.
+use Rattle.std.specs.Prelude.{◌≡◌, ℕ, List, [], ◌∷◌, length, Some, None}
+use Rattle.std.specs.FinMap.{empty}
+use Rattle.std.specs.List.{AllByRecursion}
+use Rattle.hudi_base.specs.Clock.{ClockState}
+use Rattle.hudi_base.specs.Files.{FileMap, Told}
+use Rattle.hudi_base.specs.Store.{StoreState}
+use Rattle.hudi_base.specs.declared.operation.Operation.{Operation}
+use Rattle.job_script.specs.declared.script.Line.{Line}
+use Rattle.job_script.specs.declared.script.Line.TheVariants.{Upsert, Snapshot}
+use Rattle.job_script.specs.declared.script.ScriptJob.{ScriptJob}
+use Rattle.table_answers.specs.InTurn.{IsMadeBy}
+use Rattle.table_answers.specs.Snapshots.{AnswersSnapshot}
+use Rattle.table_board.specs.Boards.{DrawnTimes, FaultsCounted}
+use Rattle.table_board.specs.HonestRuns.{IsUndamaged, StandsThroughout}
+use Rattle.table_board.specs.KnownEntries.{known_entries}
+use Rattle.table_core.specs.declared.job_reply.JobReply.{JobReply}
+use Rattle.table_core.specs.declared.job_reply.JobReply.TheVariants.{Damaged}
+use Rattle.table_history.specs.Histories.{History}
+use Rattle.table_history.specs.JobLaw.{IsLegal}
+use Rattle.table_history.specs.Tables.{Table, fresh}
+use Rattle.table_history.specs.declared.entry.Entry.{Entry}
+use Rattle.table_history.specs.declared.job.Job.{Job}
+use Rattle.upsert_writer.specs.Blocks.{BlockForm}
+use Rattle.script_run.specs.Batches.{any_batch}
+use Rattle.script_run.specs.Lines.{AnswersLine}
+
+-- ---- a job
+
+-- the job of a line, in the one lane
+abbrev pub job_of : ℕ → Job
+job_of line = record { lane = 1; line = line }
+
+-- the table of a form as a run begins: it has no instants
+abbrev pub table_of_form : BlockForm → Table
+table_of_form form = fresh form.table
+
+-- a snapshot's answer is that of the instants which are completed after this history
+abbrev pub IsSnapshotOf : BlockForm → Line → History → JobReply → Type 0
+IsSnapshotOf form (Upsert rows) H reply = Unit {0}
+IsSnapshotOf form Snapshot H reply = AnswersSnapshot form (table_of_form form) H None reply
+
+-- The job of a line made these entries, and its answer is the one that they tell, of a query also by the bytes that it
+-- read. Where the store is honest and stood, a snapshot is that of the instants which were completed when it began.
+pub record RanLine (form : BlockForm) (Stood : Type 0) (job : ScriptJob) (before after : History) (reply : JobReply)
+    : Type 0 where
+  pub mine : List Entry
+  pub made : IsMadeBy (job_of job.number) before after mine
+  pub answers : AnswersLine form job.line mine reply
+  pub rows : Stood → IsSnapshotOf form job.line before reply
+
+-- The jobs of a script, one after another, each with its reply.
+abbrev pub RanJobs : BlockForm → Type 0 → List ScriptJob → List JobReply → History → History → Type 0
+RanJobs form Stood [] [] before after = after ≡ before
+RanJobs form Stood (job ∷ jobs) (reply ∷ replies) before after =
+    (between : History) × RanLine form Stood job before between reply × RanJobs form Stood jobs replies between after
+RanJobs form Stood _ _ before after = ⊥
+
+-- ---- the store
+
+-- The store is honest, and tells that it has no file, which operations it has done, and what it had at first.
+pub record IsHonestFresh (is_honest : Type 0) (told : Told) (start : FileMap) (before : List Operation) : Type 0 where
+  pub honest : is_honest
+  pub files : told.files ≡ Some empty
+  pub operations : told.operations ≡ Some before
+  pub first : told.first ≡ Some start
+
+-- it is so for some files and operations
+abbrev pub WasHonestFresh : Type 0 → Told → Type 0
+WasHonestFresh is_honest told = (start : FileMap) × ((before : List Operation) × IsHonestFresh is_honest told start before)
+
+abbrev pub IsUndamagedAnswer : JobReply → Type 0
+IsUndamagedAnswer (Damaged name cause at) = ⊥
+IsUndamagedAnswer reply = Unit {0}
+
+-- What holds of a run over such a store: nothing is damaged, its entries are legal to the byte, the operations since the
+-- beginning are those of the entries in order, and every image that a stop leaves of them stands.
+pub record IsTrueRun (A : Table) (start : FileMap) (before now : List Operation) (H : History)
+    (replies : List JobReply) : Type 0 where
+  pub undamaged : AllByRecursion IsUndamaged H
+  pub answers : AllByRecursion IsUndamagedAnswer replies
+  pub legal : IsLegal any_batch A H
+  pub images : StandsThroughout any_batch A start (length before) now H
+
+-- ---- a run
+
+-- A run of these jobs, on a table without instants: from what is seen of the store before it to what is seen then, with
+-- this clock at its end.
+pub record IsRunOf (form : BlockForm) (jobs : List ScriptJob) (H : History) (replies : List JobReply)
+    (is_honest : Type 0) (old new : StoreState) (clock : ClockState) : Type 0 where
+  pub ran : RanJobs form (WasHonestFresh is_honest old.told) jobs replies [] H
+  pub legal : IsLegal any_batch (table_of_form form) (known_entries (table_of_form form) H)
+  pub drawn : DrawnTimes (table_of_form form) clock.most H
+  pub faults : FaultsCounted old.faults H new.faults
+  pub on_honest : (start : FileMap) (before : List Operation) → IsHonestFresh is_honest old.told start before
+      → (now : List Operation) × ((new.told.operations ≡ Some now) × IsTrueRun (table_of_form form) start before now H replies)
