@@ -1,11 +1,13 @@
 #!/usr/bin/env python3
-"""Ends with status 1 unless the program and the peer printed the same rows, in the same order.
+"""Ends with status 1 unless the programs printed the same rows, in the same order.
 
-Run: same_rows.py OURS PEERS
+Run: same_rows.py OURS PEERS [FLOOR]
 
-OURS is what the program printed: its last line has the rows. PEERS has one row a line.
+OURS is what the program printed, of which the last job line has the rows, and FLOOR the same of the floor, whose lines are
+those of the program but for the times. PEERS has one row a line.
 """
 import json
+import re
 import sys
 
 
@@ -13,13 +15,29 @@ def parts(row):
     return row["key"], row["rank"], row["body"]
 
 
-with open(sys.argv[1]) as ours:
-    last = ours.readlines()[-1]
-ours = [parts(row) for row in json.loads(last[last.index("["):])]
-with open(sys.argv[2]) as peers:
-    peers = [parts(json.loads(line)) for line in peers]
+def lines_of(path):
+    with open(path) as file:
+        return file.read().splitlines()
+
+
+def last_rows(lines):
+    last = [line for line in lines if not line.startswith("mark ")][-1]
+    return [parts(row) for row in json.loads(last[last.index("["):])]
+
+
+def without_times(line):
+    return re.sub(r"\d{13,17}", "T", line)
+
+
+told = lines_of(sys.argv[1])
+ours = last_rows(told)
+peers = [parts(json.loads(line)) for line in lines_of(sys.argv[2])]
 if ours != peers:
     place = next((i for i, (a, b) in enumerate(zip(ours, peers)) if a != b), min(len(ours), len(peers)))
     sys.exit(f"rows differ: {len(ours)} and {len(peers)} of them, first at place {place}: "
              f"{ours[place:place + 1]} and {peers[place:place + 1]}")
+for floor in sys.argv[3:]:
+    floor = lines_of(floor)
+    if list(map(without_times, told)) != list(map(without_times, floor)):
+        sys.exit("the floor printed another text")
 print(f"the same {len(ours)} rows")

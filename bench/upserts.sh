@@ -1,18 +1,21 @@
 #!/bin/sh
-# Times the program beside sqlite3: upserts read from JSON lines, folded by key and rank, and printed in key order.
+# Times the program beside sqlite3 and beside a floor in C++: upserts read from JSON lines, folded by key and rank, and
+# printed in key order.
 #
-# Run: bench/first_path.sh
-# It wants python3 and sqlite3, and skips where one is missing. It ends with status 1 where the rows that the two
-# print differ. Whether the times meet their aims stands in its last two lines.
+# Run: bench/upserts.sh
+# It wants python3, sqlite3 and g++ with libsimdjson, and skips where one is missing. It ends with status 1 where the rows
+# that they print differ. Whether the figures meet their aims stands in its last lines.
 set -eu
 top=$(cd "$(dirname "$0")/.." && pwd)
 program=$top/crates/hudi_cli/out/hudi_cli
 bench=$top/bench
 rows_a_line=10000
-most_ratio=0.5  # of the program's time to the peer's
-most_growth=12  # of the program's time for ten times the rows
+most_ratio=0.25 # of the program's time to sqlite3's
+most_floor=1.7  # of the program's time to the floor's
+most_growth=11  # of the program's time for ten times the rows
+most_memory=1.6 # of the program's memory to the floor's
 
-for tool in python3 sqlite3; do
+for tool in python3 sqlite3 g++; do
     if ! command -v "$tool" >/dev/null; then
         echo "skipped: no $tool"
         exit 0
@@ -30,6 +33,10 @@ trap 'exit 1' HUP INT TERM
 # Without words the script `hudi` builds the program and says how it is used. What is timed is the program itself,
 # without the look at its sources.
 "$top/hudi" >"$work/usage" || [ $? -eq 2 ]
+if ! g++ -O2 -std=c++17 "$bench/floor.cpp" -lsimdjson -o "$work/floor" 2>"$work/usage"; then
+    echo "skipped: no libsimdjson"
+    exit 0
+fi
 
 # The peer's script. What makes it fair: sqlite parses the same JSON lines as the program, each in a file of its own,
 # so that its shell needn't read them as SQL. A line is a transaction, as a line is one append that is synced. The rows
@@ -56,26 +63,28 @@ median() {
     sort -n "$1" | sed -n 3p
 }
 
-# Runs both on a load of so many lines, in turn, five times. It leaves their median runs in `ours` and `peers`: on a
+# Runs all on a load of so many lines, in turn, five times. It leaves their median runs in `ours`, `floors` and `peers`: on a
 # machine that others share, the best of a few runs is now and then far below the others.
-run_both() {
+run_all() {
     load=$work/$1
     mkdir "$load"
     python3 "$bench/upserts.py" "$1" "$rows_a_line" >"$load/script"
     head -n "$1" "$load/script" | (cd "$load" && split -l 1 -a 3 - line.)
     peer_script "$load" >"$load/peer"
     for _ in 1 2 3 4 5; do
-        rm -rf "$load/table" "$load/db"
+        rm -rf "$load/table" "$load/bare" "$load/db"
         python3 "$bench/measure.py" "$load/script" "$load/ours" "$program" "$load/table" run 1 >>"$load/our_runs"
+        python3 "$bench/measure.py" "$load/script" "$load/floor" "$work/floor" "$load/bare" >>"$load/floor_runs"
         python3 "$bench/measure.py" "$load/peer" "$load/peers" sqlite3 -bail "$load/db" >>"$load/peer_runs"
     done
     ours=$(median "$load/our_runs")
+    floors=$(median "$load/floor_runs")
     peers=$(median "$load/peer_runs")
-    same=$(python3 "$bench/same_rows.py" "$load/ours" "$load/peers")
+    same=$(python3 "$bench/same_rows.py" "$load/ours" "$load/peers" "$load/floor")
     printf '%s rows: %s\n' "$(($1 * rows_a_line))" "$same"
     tell program "$ours"
+    tell floor "$floors"
     tell sqlite3 "$peers"
-    printf '  program / sqlite3: %s\n' "$(ratio "${ours% *}" "${peers% *}")"
 }
 
 tell() {
@@ -95,9 +104,11 @@ aim() {
     fi
 }
 
-run_both 10
+run_all 10
 few=${ours% *}
-run_both 100
+run_all 100
 many=${ours% *}
 aim "program / sqlite3 at 1,000,000 rows" "$(ratio "$many" "${peers% *}")" "$most_ratio"
+aim "program / floor at 1,000,000 rows" "$(ratio "$many" "${floors% *}")" "$most_floor"
 aim "program at 1,000,000 rows / at 100,000" "$(ratio "$many" "$few")" "$most_growth"
+aim "memory of the program / of the floor at 1,000,000 rows" "$(ratio "${ours#* }" "${floors#* }")" "$most_memory"

@@ -1,32 +1,40 @@
 #!/usr/bin/env python3
-"""Makes scripts, and looks over what the program left. It has its own reader and writer of log blocks and its own
-fold, from the description of the format, and nothing of the program's.
+"""Makes scripts, and looks over what the program printed and left in a folder, by tests/script_model.py, which shares
+nothing with the program.
 
-Run: outside.py script SEED LINES ROWS           prints a random script of so many upserts of so many rows
-     outside.py ran SCRIPT TEXT LOG FROM TO      the script ran between these times, in milliseconds, and wrote its text
-     outside.py cut SCRIPT TEXT LOG              the script ran, and what was written is a front of its text
-     outside.py front SCRIPT LOG                 the log has whole blocks of the first upserts and a front of the next
+Run: outside.py script SEED LINES ROWS              prints a random script of so many upserts of so many rows, with
+                                                    snapshots between them
+     outside.py ran SCRIPT TEXT FOLDER FROM TO      the script ran between these times, in milliseconds
+     outside.py cut SCRIPT TEXT FOLDER              the script ran, and what was written is a front of its text
+     outside.py front SCRIPT FOLDER                 a run was stopped: the folder has what its first steps do, and of the
+                                                    next one a front of its bytes
+     outside.py kills PROGRAM SCRIPT COUNT SEED     so many runs, each stopped by kill -9 at a random moment: each leaves
+                                                    what `front` says
+     outside.py failed SCRIPT TEXT FOLDER           some steps failed: what is told is what the folder has
 
-The last three end with status 1, and say why, where it isn't so.
+All but the first end with status 1, and say why, where it isn't so.
 """
-import datetime
 import json
+import os
 import random
-import struct
+import re
+import shutil
+import subprocess
 import sys
+import time
+from datetime import datetime, timezone
 
-MAGIC = b"#HUDI#"
-LEAST, MOST = -2**63, 2**63 - 1
-# A block begins with 34 bytes, and then comes its time: magic, length, version, type, count of header entries, and
-# the number and the length of the first entry.
-TIME_AT, TIME_BYTES = 34, 17
+from script_model import LEAST, MOST, answer_rows, block, changes_of, read_script, run, timeline_name
 
 # Pieces of keys and bodies: quotes, backslashes, controls, NUL, one and the same letter composed and combining, signs
 # of two to four bytes, the marks that some readers take for line ends or drop, and the greatest code point.
 PIECES = ["a", "b", "Z", "0", " ", '"', "\\", "/", "\x00", "\x01", "\b", "\t", "\n", "\f", "\r", "\x1f", "\x7f", "\x80",
           "\u00e9", "e\u0301", "\u05d0", "\u2028", "\u2029", "\ufeff", "\ufffd", "\uffff", "\uac00", "\U0001f600",
           "\U0001f468\u200d\U0001f469", "\U0010ffff", "\\u0041", "{}", "null"]
+SNAPSHOT = '{"job":"snapshot"}'
 
+
+# ---- scripts
 
 def text(draw, least, most):
     return "".join(draw.choice(PIECES) for _ in range(draw.randint(least, most)))
@@ -53,174 +61,157 @@ def print_script(seed, lines, rows):
     out = []
     for _ in range(lines):
         out += [draw.choice(["", "\r"])] * (draw.random() < 0.3)  # an empty line, which is counted
+        out += [SNAPSHOT] * (draw.random() < 1 / lines)
         out.append('{"job":"upsert","rows":[' + ",".join(row_line(draw, keys) for _ in range(rows)) + "]}"
                    + draw.choice(["", "\r"]))
-    sys.stdout.buffer.write("\n".join(out + ['{"job":"snapshot"}']).encode() + draw.choice([b"", b"\n", b"\r\n\n"]))
+    sys.stdout.buffer.write("\n".join(out + [SNAPSHOT]).encode() + draw.choice([b"", b"\n", b"\r\n\n"]))
 
+
+# ---- what is there
 
 def content_of(path):
     with open(path, "rb") as file:
         return file.read()
 
 
-def read_script(path):
-    """The upserts, each a line number and rows of key, rank and body, and the number of the snapshot's line."""
-    upserts = []
-    for number, line in enumerate(content_of(path).split(b"\n"), 1):
-        job = json.loads(line) if line.strip(b"\r") else None
-        if job and job["job"] == "snapshot":
-            return upserts, number
-        if job:
-            upserts.append((number, [(row["key"].encode(), row["rank"], row["body"].encode()) for row in job["rows"]]))
-
-
-class Reader:
-    """Reads fields of bytes, one behind the other."""
-
-    def __init__(self, data):
-        self.data, self.at = data, 0
-
-    def take(self, count):
-        assert self.at + count <= len(self.data), f"the bytes end in a field at {self.at}"
-        self.at += count
-        return self.data[self.at - count:self.at]
-
-    def number(self, form):
-        return struct.unpack(form, self.take(struct.calcsize(form)))[0]
-
-    def sized(self):
-        return self.take(self.number(">I"))
-
-    def must(self, what, form, wanted):
-        at, found = self.at, self.number(form)
-        assert found == wanted, f"{what} at {at} is {found} and not {wanted}"
-
-
-def read_block(log):
-    """The time and the rows of the block at a reader's place."""
-    start = log.at
-    assert log.take(6) == MAGIC, f"no magic at {start}"
-    length = log.number(">Q")
-    end = log.at + length
-    log.must("version", ">I", 1)
-    log.must("type", ">I", 3)
-    log.must("count of header entries", ">I", 2)
-    log.must("first header key", ">I", 0)
-    time = log.sized().decode()
-    assert len(time) == TIME_BYTES and time.isdecimal(), f"time {time}"
-    log.must("second header key", ">I", 2)
-    schema = log.sized()
-    assert schema == b"r1", f"schema {schema}"
-    content = Reader(log.take(log.number(">Q")))
-    log.must("count of footer entries", ">I", 0)
-    log.must("size", ">Q", log.at - start)
-    assert log.at == end, f"the block at {start} ends at {log.at}, its length says {end}"
-    content.must("version of the content", ">I", 3)
-    rows = [(content.sized(), content.number(">q"), content.sized()) for _ in range(content.number(">I"))]
-    assert content.at == len(content.data), f"bytes behind the last row of the block at {start}"
-    return time, rows
-
-
-def sized(data):
-    return struct.pack(">I", len(data)) + data
-
-
-def block(time, rows):
-    """The block of rows."""
-    content = struct.pack(">II", 3, len(rows)) + b"".join(
-        sized(key) + struct.pack(">q", rank) + sized(body) for key, rank, body in rows)
-    header = struct.pack(">III", 2, 0, TIME_BYTES) + time + struct.pack(">I", 2) + sized(b"r1")
-    rest = struct.pack(">II", 1, 3) + header + struct.pack(">Q", len(content)) + content + struct.pack(">I", 0)
-    return MAGIC + struct.pack(">Q", len(rest) + 8) + rest + struct.pack(">Q", len(MAGIC) + 8 + len(rest))
-
-
-def fold(commits):
-    """The rows that are left: a greater rank stays, and of equal ranks the later write."""
-    table = {}
-    for time, rows in commits:
-        for seq, (key, rank, body) in enumerate(rows):
-            if key not in table or table[key][0] <= rank:
-                table[key] = (rank, time, seq, body)
-    return sorted(table.items())
-
-
-def wanted_text(upserts, snapshot, commits):
-    lines = [f"{number} upsert committed {time}" for (number, _), (time, _) in zip(upserts, commits)]
-    rows = [{"_hoodie_commit_seqno": f"{time}_0_{seq}", "_hoodie_commit_time": time, "body": body.decode(),
-             "key": key.decode(), "rank": rank} for key, (rank, time, seq, body) in fold(commits)]
-    array = json.dumps(rows, ensure_ascii=False, separators=(",", ":"), sort_keys=True)
-    newest = max((time for time, _ in commits), default="none")
-    return "\n".join(lines + [f"{snapshot} snapshot rows {newest} {array}", ""]).encode()
+def files_in(folder):
+    """The files below a folder, by their names in the table. What is being written lies aside."""
+    found, root = {}, os.fsencode(folder)
+    for place, folders, names in os.walk(root):
+        if place == os.path.join(root, b".hoodie"):
+            folders[:] = [name for name in folders if name != b".temp"]
+        for name in names:
+            path = os.path.join(place, name)
+            found[os.path.relpath(path, root)] = content_of(path)
+    return found
 
 
 def milliseconds(time):
-    stamp = datetime.datetime.strptime(time[:14], "%Y%m%d%H%M%S").replace(tzinfo=datetime.timezone.utc)
+    """The time that 17 digits write."""
+    stamp = datetime.strptime(time[:14].decode(), "%Y%m%d%H%M%S").replace(tzinfo=timezone.utc)
     return int(stamp.timestamp()) * 1000 + int(time[14:])
 
 
-def check_times(times, start, end):
-    """Each time is that of the clock in the run, or one more than the time before, whichever is more."""
+def clock_of(files):
+    """The times of the instants that were requested, in order."""
+    names = [re.fullmatch(rb"\.hoodie/(\d{17})\.deltacommit\.requested", name) for name in sorted(files)]
+    return [milliseconds(name[1]) for name in names if name]
+
+
+# ---- checks
+
+def check_files(found, wanted):
+    assert sorted(found) == sorted(wanted), f"files {sorted(set(found) ^ set(wanted))}"
+    for name, data in wanted.items():
+        assert found[name] == data, f"the bytes of {name}"
+
+
+def check_ran(script, output, folder, start, end):
+    check_cut(script, output, folder)
+    times = clock_of(files_in(folder))
+    assert content_of(output) == run(content_of(script), clock=times or [0]).text, "the text ends too early"
     before = 0
-    for time in map(milliseconds, times):
-        assert max(start, before + 1) <= time <= max(end, before + 1), f"time {time}, not from {start} to {end}"
-        before = time
+    for drawn in times:  # that of the clock, or one more than the time before, whichever is more
+        assert max(int(start), before + 1) <= drawn <= max(int(end), before + 1), f"time {drawn}, not from {start} to {end}"
+        before = drawn
 
 
-def read_log(path):
-    log, commits = Reader(content_of(path)), []
-    while log.at < len(log.data):
-        commits.append(read_block(log))
-    return commits
+def check_cut(script, output, folder):
+    found = files_in(folder)
+    ending = run(content_of(script), clock=clock_of(found) or [0])
+    check_files(found, ending.files)
+    written = content_of(output)
+    assert ending.text.startswith(written), "the text isn't that of the run"
+    if not written.endswith(b"\n"):
+        print(f"{len(written)} of {len(ending.text)} bytes of the text")
 
 
-def check_ran(script, output, log, start, end):
-    check_cut(script, output, log)
-    upserts, snapshot = read_script(script)
-    commits = read_log(log)
-    assert content_of(output) == wanted_text(upserts, snapshot, commits), "the text ends too early"
-    assert content_of(log) == b"".join(block(time.encode(), rows) for time, rows in commits), "the log"
-    check_times([time for time, _ in commits], int(start), int(end))
-
-
-def check_cut(script, output, log):
-    upserts, snapshot = read_script(script)
-    commits = read_log(log)
-    assert [rows for _, rows in commits] == [rows for _, rows in upserts], "the blocks aren't those of the upserts"
-    text = content_of(output)
-    assert wanted_text(upserts, snapshot, commits).startswith(text), "the text isn't that of the fold"
-    if text == b"" or not text.endswith(b"\n"):
-        print(f"all {len(commits)} blocks, and {len(text)} bytes of the text")
-
-
-def check_front(script, log_path):
-    upserts, _ = read_script(script)
-    log = content_of(log_path)
-    at = whole = 0
-    before = b""
-    for _, rows in upserts:
-        time = log[at + TIME_AT:at + TIME_AT + TIME_BYTES].ljust(TIME_BYTES, b"9")
-        assert time.isdigit() and time > before, f"time {time} after {before}"
-        before = time
-        wanted = block(time, rows)
-        found = log[at:at + len(wanted)]
-        assert wanted.startswith(found), f"no front of the block of upsert {whole + 1} at {at}"
-        at += len(found)
-        if len(found) < len(wanted):
+def front_of(script, folder):
+    """How many steps the folder has, of how many, and how many bytes of the next one."""
+    found, whole = files_in(folder), {}
+    changes = changes_of(content_of(script), clock_of(found) or [0])
+    done = 0
+    for name, data in changes:
+        if name not in found or not found[name].startswith(data, len(whole.get(name, b""))):
             break
-        whole += 1
-    assert at == len(log), f"bytes behind the front that ends at {at}"
-    print(f"{whole} whole blocks of {len(upserts)}, and {len(found) if whole < len(upserts) else 0} bytes of the next")
+        whole[name] = whole.get(name, b"") + data
+        done += 1
+    rest = b""
+    if done < len(changes):
+        name, data = changes[done]
+        rest = found.get(name, b"")[len(whole.get(name, b"")):]
+        assert data.startswith(rest), f"no front of step {done}: {name}"
+        if rest:
+            whole[name] = whole.get(name, b"") + rest
+    check_files(found, whole)
+    return done, len(changes), len(rest)
 
 
+def tell_front(script, folder):
+    print("{} of {} steps, and {} bytes of the next".format(*front_of(script, folder)))
+
+
+def kill_at(program, script, folder, seconds):
+    with open(script, "rb") as lines:
+        child = subprocess.Popen([program, folder, "run", "1"], stdin=lines, stdout=subprocess.DEVNULL)
+        time.sleep(seconds)
+        child.kill()
+        child.wait()
+
+
+def check_kills(program, script, count, seed):
+    draw, begin = random.Random(int(seed)), time.monotonic()
+    with open(script, "rb") as lines:
+        subprocess.run([program, "kill.d", "run", "1"], stdin=lines, stdout=subprocess.DEVNULL, check=True)
+    whole = time.monotonic() - begin
+    steps = set()
+    for turn in range(int(count)):
+        folder = f"kill{turn}.d"
+        kill_at(program, script, folder, draw.uniform(0, whole))
+        done, _, rest = front_of(script, folder)
+        steps.add((done, rest))
+        shutil.rmtree(folder, ignore_errors=True)
+    print(f"{len(steps)} different fronts, {sum(rest > 0 for _, rest in steps)} of them within a block")
+
+
+def check_failed(script, output, folder):
+    found, told = files_in(folder), content_of(output).split(b"\n")
+    jobs = read_script(content_of(script))
+    marks = [mark.split(b" ") for mark in told[len(jobs):-1]]
+    commits, faults = [], 0
+    for job, line in zip(jobs, told):
+        mine = [mark for mark in marks if int(mark[2]) == job.line]
+        words = line.split(b" ", 3)
+        assert int(words[0]) == job.line, f"line {line}"
+        if not job.rows:
+            assert line == b"%d snapshot %s" % (job.line, answer_rows(commits)), f"the rows of line {job.line}"
+            continue
+        began = [int(mark[5]) for mark in mine if mark[3:5] == [b"begin", b"began"]]
+        for mark in mine:
+            if mark[3:5] == [b"append", b"placed"]:
+                check_block(found, int(mark[5]), int(mark[6]), block(began[0], job.rows))
+        if words[2] == b"committed":
+            done_at = milliseconds(words[3])
+            assert began == [done_at] and timeline_name(done_at, b"") in found, f"line {job.line} isn't completed"
+            commits.append((done_at, job.rows))
+        else:
+            assert words[2] == b"fault" and any(mark[4] == b"fault" for mark in mine), f"line {line}"
+            assert not began or timeline_name(began[0], b"") not in found, f"line {job.line} is completed"
+            faults += 1
+    print(f"{len(commits)} upserts are committed, {faults} failed")
+
+
+def check_block(found, version, at, wanted):
+    logs = [data for name, data in found.items() if b".log.%d_" % version in name]
+    assert len(logs) == 1 and logs[0][at:at + len(wanted)] == wanted, f"no block at {at} in version {version}"
+
+
+COMMANDS = {"ran": check_ran, "cut": check_cut, "front": tell_front, "kills": check_kills, "failed": check_failed}
 command, words = sys.argv[1], sys.argv[2:]
 try:
     if command == "script":
         print_script(*map(int, words))
-    elif command == "ran":
-        check_ran(*words)
-    elif command == "cut":
-        check_cut(*words)
     else:
-        check_front(*words)
+        COMMANDS[command](*words)
 except (AssertionError, OSError, UnicodeError) as error:
     sys.exit(f"{error}")
