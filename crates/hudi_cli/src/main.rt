@@ -1,17 +1,18 @@
 //! `hudi DIR run LANES`: runs a script of JSON lines over the table in a folder.
 //!
-//! It hands the folder, the standard streams and the system's clock to `hudi_run_solo` of `table_run`, whose contract
-//! says what a run does.
+//! It hands the folder, the standard streams, the system's clock and the codec of the table to `hudi_run_solo` of
+//! `script_run`, whose contract says what a run does.
 #![tactic(auto)]
 
 ghost use Rattle.std.specs.Prelude.{◌≢◌, [], IfOk, string_bytes};
 
+use plain_rows::PlainRows;
+use script_run::{OUT_OF_MEMORY, hudi_run_solo};
 use std::alloc::{AllocError, Global};
 use std::env;
 use std::io::{self, ErrorKind};
 use std::process::ExitCode;
 use store_dir::{DirStore, StdinSource, StdoutSink, SystemClock};
-use table_run::{OUT_OF_MEMORY, hudi_run_solo};
 
 fn main(rt: HostRuntime) -> ExitCode {
     let alloc = rt.alloc();
@@ -27,6 +28,9 @@ fn main(rt: HostRuntime) -> ExitCode {
     let Ok(folder) = take_folder(alloc, &mut words) else {
         return ExitCode::from(OUT_OF_MEMORY);
     };
+    let Ok(codec) = PlainRows::new(alloc) else {
+        return ExitCode::from(OUT_OF_MEMORY);
+    };
     let store = DirStore::new(rt, folder);
     let clock = SystemClock::new(rt);
     let mut input = StdinSource::new(rt.reader());
@@ -34,6 +38,7 @@ fn main(rt: HostRuntime) -> ExitCode {
     let (status, _, _) = hudi_run_solo(
         alloc,
         words.as_slice(),
+        &codec,
         store,
         clock,
         &mut input,

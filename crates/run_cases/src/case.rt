@@ -1,7 +1,7 @@
 // A case: how a run begins, and how it must end.
 use crate::members::{bytes_of, number_at, numbers_at, text_at};
 use anyhow::{Result, bail};
-use hudi_base::{Bytes, Sequence};
+use hudi_base::{Bytes, Name, Sequence};
 use serde_json::Value;
 use std::alloc::Global;
 
@@ -13,15 +13,11 @@ pub enum Answer {
     Failed,
 }
 
-/// What the log file must hold.
+/// A file that must be there.
 #[derive(Drop)]
-pub enum Log {
-    /// It isn't looked at.
-    Any,
-    /// There is none, and no other file.
-    None,
-    /// These bytes, and there is no other file.
-    Bytes(Bytes),
+pub struct Found {
+    pub name: Name,
+    pub bytes: Bytes,
 }
 
 /// How a run must end. What is missing isn't looked at.
@@ -29,7 +25,8 @@ pub enum Log {
 pub struct Expected {
     pub status: u64,
     pub text: Bytes,
-    pub log: Log,
+    /// `found`, the files that there are, and there are no others.
+    pub found: Option<Vec<Found>>,
     /// How often the source was called.
     pub reads: Option<u64>,
     /// How many bytes the source has left.
@@ -145,17 +142,30 @@ fn expected_of(alloc: Global, value: &Value) -> Result<Expected> {
     Ok(Expected {
         status,
         text: bytes_of(alloc, text)?,
-        log: log_of(alloc, value)?,
+        found: found_of(alloc, value)?,
         reads: number_at(value, "reads"),
         left: number_at(value, "left"),
         calls: number_at(value, "calls"),
     })
 }
 
-fn log_of(alloc: Global, value: &Value) -> Result<Log> {
-    match value.get("log") {
-        None => Ok(Log::Any),
-        Some(Value::Null) => Ok(Log::None),
-        Some(log) => Ok(Log::Bytes(bytes_of(alloc, log)?)),
+fn found_of(alloc: Global, value: &Value) -> Result<Option<Vec<Found>>> {
+    let Some(items) = value.get("found").and_then(Value::as_array) else {
+        return Ok(None);
+    };
+    let mut found = Vec::new(alloc);
+    for item in items {
+        found.push(file_of(alloc, item)?)?;
     }
+    Ok(Some(found))
+}
+
+fn file_of(alloc: Global, item: &Value) -> Result<Found> {
+    let Some(bytes) = item.get("bytes") else {
+        bail!("a file without bytes");
+    };
+    Ok(Found {
+        name: Name::from_text(alloc, text_at(item, "name", ""))?,
+        bytes: bytes_of(alloc, bytes)?,
+    })
 }

@@ -1,8 +1,7 @@
 // Whether a run ended as it had to.
-use crate::case::{Expected, Log};
+use crate::case::{Expected, Found};
 use crate::run::Ended;
 use anyhow::Result;
-use hudi_base::Name;
 use std::alloc::Global;
 use store_mem::MemStore;
 
@@ -43,25 +42,27 @@ fn difference_of_store(
         let calls = store.calls();
         return Ok(Some(format!(in alloc; "{calls} calls")?));
     }
-    if !has_log(alloc, &expected.log, store)? {
-        return Ok(Some(String::from_str(alloc, "another log")?));
+    match &expected.found {
+        Some(found) => difference_of_files(alloc, found, store),
+        None => Ok(None),
+    }
+}
+
+// The first file that isn't as it must be.
+fn difference_of_files(
+    alloc: Global,
+    expected: &[Found],
+    store: &MemStore,
+) -> Result<Option<String>> {
+    let count = store.file_count();
+    if count != expected.len() {
+        return Ok(Some(format!(in alloc; "{count} files")?));
+    }
+    for found in expected {
+        if store.file(&found.name) != Some(found.bytes.as_slice()) {
+            let name = found.name.as_str();
+            return Ok(Some(format!(in alloc; "file {name}")?));
+        }
     }
     Ok(None)
-}
-
-// Whether the store has the log that it must have, and no other file.
-fn has_log(alloc: Global, log: &Log, store: &MemStore) -> Result<bool> {
-    let name = Name::from_text(alloc, "x/.r1.log.1_0-0-0")?;
-    Ok(match log {
-        Log::Any => true,
-        Log::None => store.file_count() == 0,
-        Log::Bytes(bytes) => store.file_count() == 1 && is_file(store, &name, bytes.as_slice()),
-    })
-}
-
-fn is_file(store: &MemStore, name: &Name, bytes: &[u8]) -> bool {
-    match store.file(name) {
-        Some(found) => found == bytes,
-        None => false,
-    }
 }

@@ -4,9 +4,10 @@ use crate::case::{Answer, Case};
 use crate::turn_clock::TurnClock;
 use anyhow::Result;
 use hudi_base::{Bytes, FaultCount, Name, Sequence, Store};
+use plain_rows::PlainRows;
+use script_run::hudi_run_solo;
 use std::alloc::Global;
 use store_mem::{MemSink, MemSource, MemStore};
-use table_run::hudi_run_solo;
 
 // How many bytes a run may write.
 const OUTPUT_CAPACITY: usize = 1_000_000;
@@ -54,9 +55,11 @@ fn run_over<S: Store + Drop>(alloc: Global, case: &Case, store: S) -> Result<(En
     let failing = copy(alloc, &case.failing_writes)?;
     let mut output = MemSink::new(alloc, OUTPUT_CAPACITY, pieces, failing)?;
     let clock = TurnClock::new(&case.clock);
+    let codec = PlainRows::new(alloc)?;
     let (status, store, _) = hudi_run_solo(
         alloc,
         &case.words,
+        &codec,
         store,
         clock,
         &mut input,

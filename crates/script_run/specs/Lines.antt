@@ -1,8 +1,7 @@
 -- What the job of one line writes and answers.
-use Rattle.std.specs.Prelude.{◌≤◌, ◌<◌, ◌^◌, ℕ, List, [], length, map, None}
+use Rattle.std.specs.Prelude.{◌<◌, ◌^◌, ℕ, List, [], map, None}
 use Rattle.hudi_base.specs.InstantTime.{IsTime}
-use Rattle.job_script.specs.Rows.{row_of_input}
-use Rattle.job_script.specs.Script.{most_body_bytes, most_key_bytes}
+use Rattle.job_script.specs.Rows.{IsSized, row_of_input}
 use Rattle.job_script.specs.declared.script.InputRow.{InputRow}
 use Rattle.job_script.specs.declared.script.Line.{Line}
 use Rattle.job_script.specs.declared.script.Line.TheVariants.{Upsert, Snapshot}
@@ -29,13 +28,7 @@ abbrev pub AnswersLine : BlockForm → Line → List Entry → JobReply → Type
 AnswersLine form (Upsert rows) mine reply = AnswersUpsert form rows mine reply
 AnswersLine form Snapshot mine reply = IsQueryReply (record { rows = form.reading; table = form.table }) None mine reply
 
--- a row as long as a script may have it
-pub record IsSizedRow (row : InputRow) : Type 0 where
-  pub key_from : 1 ≤ length row.key
-  pub key_to : length row.key ≤ most_key_bytes
-  pub body_to : length row.body ≤ most_body_bytes
-
 -- The rows of scripts are a codec's own, whichever instant writes them at whichever place.
 abbrev pub OwnsScriptRows : (Row → Type 0) → Type 0
-OwnsScriptRows Own = (row : InputRow) (t seq : ℕ) → IsSizedRow row → IsTime t → seq < 2 ^ 32
+OwnsScriptRows Own = (row : InputRow) (t seq : ℕ) → IsSized row → IsTime t → seq < 2 ^ 32
     → Own (record (row_of_input row) { commit = t; seq = seq })

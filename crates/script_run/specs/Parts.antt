@@ -1,5 +1,5 @@
 -- How the parts of a run stand. Only private clauses cite this.
-use Rattle.std.specs.Prelude.{◌≡◌, ◌≢◌, ◌⊎◌, ◌≤◌, ◌<◌, ◌+◌, ℕ, true, false, Bool, List, [], ◌∷◌, ◌++◌, length, IfSome, Result, Ok, Err, String}
+use Rattle.std.specs.Prelude.{◌≡◌, ◌≢◌, ◌⊎◌, ◌≤◌, ◌<◌, ◌+◌, ℕ, true, false, Bool, List, [], ◌∷◌, ◌++◌, IfSome, Result, Ok, Err, String}
 use Rattle.std.specs.FinMap.{empty}
 use Rattle.std.specs.List.{AllByRecursion}
 use Rattle.std.specs.Str.Lines.{lines}
@@ -9,17 +9,14 @@ use Rattle.hudi_base.specs.Clock.{ClockState}
 use Rattle.hudi_base.specs.Faults.{Rose}
 use Rattle.hudi_base.specs.Store.{StoreState}
 use Rattle.hudi_base.specs.Streams.{SinkState, SourceState}
-use Rattle.job_script.specs.Script.{most_rows, script_of}
+use Rattle.job_script.specs.Rows.{HasSizes}
+use Rattle.job_script.specs.Script.{script_of}
 use Rattle.job_script.specs.Texts.{job_text, jobs_text}
-use Rattle.job_script.specs.declared.script.InputRow.{InputRow}
-use Rattle.job_script.specs.declared.script.Line.{Line}
-use Rattle.job_script.specs.declared.script.Line.TheVariants.{Upsert, Snapshot}
 use Rattle.job_script.specs.declared.script.ScriptJob.{ScriptJob}
 use Rattle.table_core.specs.declared.job_reply.JobReply.{JobReply}
 use Rattle.table_history.specs.Histories.{History}
 use Rattle.upsert_writer.specs.Blocks.{BlockForm}
 use Rattle.script_run.specs.Ends.{IsReadWhole, IsTooLong}
-use Rattle.script_run.specs.Lines.{IsSizedRow}
 use Rattle.script_run.specs.Outcome.{Ends, HasBegun, HasRun, IsRunSolo, IsWithoutFiles, any_failed, is_failure}
 use Rattle.script_run.specs.Runs.{RanJobs, RanLine}
 use Rattle.script_run.specs.declared.verdict.Verdict.{Verdict}
@@ -44,19 +41,10 @@ EndsEarly (BadLine number) words old new =
 EndsEarly (OutOfMemory text) words old new = text ≡ []
 EndsEarly _ words old new = ⊥
 
--- an upsert has as many rows as it may have, each as long as it may be
-pub record AreSizedRows (rows : List InputRow) : Type 0 where
-  pub few : length rows ≤ most_rows
-  pub each : AllByRecursion IsSizedRow rows
-
-abbrev pub IsSizedLine : Line → Type 0
-IsSizedLine (Upsert rows) = AreSizedRows rows
-IsSizedLine Snapshot = Unit {0}
-
--- the lines of jobs rise from this number on, and each has its size
+-- the lines of jobs rise from this number on, and each is within the limits
 abbrev pub AreFrom : ℕ → List ScriptJob → Type 0
 AreFrom number [] = Unit {0}
-AreFrom number (job ∷ jobs) = (number ≤ job.number) × IsSizedLine job.line × AreFrom (job.number + 1) jobs
+AreFrom number (job ∷ jobs) = (number ≤ job.number) × HasSizes job × AreFrom (job.number + 1) jobs
 
 -- ---- the jobs
 

@@ -1,8 +1,9 @@
 // The jobs of a script, one after another.
 ghost use Rattle.std.specs.Prelude.{◌≡◌, [], MatchResult, List};
+ghost use Rattle.job_script.specs.Rows.{HasSizes};
 ghost use Rattle.job_script.specs.Texts.{job_text};
 ghost use Rattle.script_run.specs.Lines.{OwnsScriptRows};
-ghost use Rattle.script_run.specs.Parts.{AreBelow, AreFrom, IsSizedLine, RanNext, RanSoFar, StoppedAt};
+ghost use Rattle.script_run.specs.Parts.{AreBelow, AreFrom, RanNext, RanSoFar, StoppedAt};
 ghost use Rattle.script_run.specs.Runs.{RanLine};
 ghost use Rattle.table_board.specs.Later.{IsLater};
 ghost use Rattle.table_core.specs.declared.job_reply.JobReply.{JobReply};
@@ -41,7 +42,7 @@ fn run_next<K: TableCodec, S: Store, C: Clock>(
     solo: &mut Solo<S, C, AnyBatch>,
 ) -> JobReply
     requires below { AreBelow job.number solo.old.board.entries }
-    requires sized { IsSizedLine job.line }
+    requires sized { HasSizes job }
     requires own { OwnsScriptRows (K.own_row codec.now) }
     ensures ran { RanLine
         (record { reading = K.block_rows codec.now; table = K.table_name codec.now; schema = K.schema codec.now })
@@ -64,7 +65,7 @@ fn run_line<K: TableCodec, S: Store, C: Clock>(
     text: &mut Vec<u8>,
 ) -> Result<bool, AllocError>
     requires below { AreBelow job.number solo.old.board.entries }
-    requires sized { IsSizedLine job.line }
+    requires sized { HasSizes job }
     requires own { OwnsScriptRows (K.own_row codec.now) }
     ensures ran { RanNext
         (record { reading = K.block_rows codec.now; table = K.table_name codec.now; schema = K.schema codec.now })

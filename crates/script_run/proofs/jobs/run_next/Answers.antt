@@ -16,7 +16,7 @@ run_job-requires-clause-new g c =
     ∙ none_placed (job_of c.args.job.number) c.args.solo.now.board.entries c.requires.below
 
 pub run_job-requires-clause-batch : goal.run_job-requires-clause-batch
-run_job-requires-clause-batch g c = batch_ready (g.K.RowCodec.own_row c.args.codec.now) c.args.job.line c.requires.own c.requires.sized
+run_job-requires-clause-batch g c = batch_ready (g.K.RowCodec.own_row c.args.codec.now) c.args.job.number c.args.job.line c.requires.own c.requires.sized
 
 pub returns-clause-ran : goal.returns-clause-ran
 returns-clause-ran g c =

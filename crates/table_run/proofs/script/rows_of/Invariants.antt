@@ -1,9 +1,0 @@
-use Rattle.std.proofs.Common.{◌≡◌, drop}
-use Rattle.serde_json.specs.View.{items_view}
-use Rattle.table_run.specs.Script.{rows_of}
-use Rattle.table_run.proofs.ScriptParts.{with_rows}
-use Rattle.table_run.proofs.script.rows_of.Given as goal
-
--- the rows so far, and those that the rest are
-abbrev pub invariant-loop-value : goal.invariant-loop-value
-invariant-loop-value l = with_rows l.rows (rows_of (items_view (drop l.value-index l.values))) ≡ rows_of (items_view l.values)
