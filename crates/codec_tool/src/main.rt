@@ -7,6 +7,7 @@
 
 mod avro;
 mod avro_json;
+mod base;
 mod json_avro;
 
 use anyhow::{Result, bail};
@@ -30,6 +31,9 @@ fn output_of(alloc: Global, words: &[String], input: &[u8]) -> Result<Bytes> {
         [format, command] if format.as_str() == "avro" => {
             avro::output_of(alloc, command.as_str(), input)
         }
-        _ => bail!("usage: codec_tool avro copy|decode|encode"),
+        [format, command] if format.as_str() == "base" => {
+            base::output_of(alloc, command.as_str(), input)
+        }
+        _ => bail!("usage: codec_tool avro copy|decode|encode, or codec_tool base write|read"),
     }
 }

@@ -1,0 +1,105 @@
+// Base files of rows that are made by one rule.
+ghost use Rattle.std.specs.Prelude.{◌≡◌, ◌≤◌, length, All, IfOk};
+ghost use Rattle.std.specs.Bool.{OnTrue};
+ghost use Rattle.plain_rows.specs.OwnRows.{IsOwn};
+
+use anyhow::{Result, bail};
+use base_cells::BaseError;
+use base_file::{read_base, write_base};
+use hudi_base::{Bytes, InstantTime, Name};
+use payload_merge::Row;
+use plain_rows::PlainRows;
+use std::alloc::Global;
+use std::fmt::Write;
+
+// The beginning of the year 2024, in milliseconds since the beginning of 1970.
+const INSTANT: u64 = 1_704_067_200_000;
+const PARTITION: &str = "x";
+const FILE: &str = "0000ffff-c50d-5b40-af36-b8949fde563e-0";
+
+/// What a command makes of the input: `write` the file of as many rows as the input says, `read` how many rows a file has
+/// and the sum of their ranks.
+pub fn output_of(alloc: Global, command: &str, input: &[u8]) -> Result<Bytes> {
+    match command {
+        "write" => written(alloc, input),
+        "read" => told(alloc, input),
+        _ => bail!("no such command"),
+    }
+}
+
+// The row at this place, by the rule.
+fn row_at(alloc: Global, time: InstantTime, place: u32) -> Result<Row> {
+    let number = u64::from(place);
+    let mut body = String::new(alloc);
+    write!(body, "{:016}", number * 2_654_435_761 % 10_000_000_019)?;
+    let mut key = String::new(alloc);
+    write!(key, "k{place:09}")?;
+    Ok(Row {
+        partition: Name::from_text(alloc, PARTITION)?,
+        key: Bytes::from_slice(alloc, key.as_bytes())?,
+        rank: (number * 7919 % 1000) as i64 - 500,
+        commit: time,
+        seq: place,
+        body: Bytes::from_slice(alloc, body.as_bytes())?,
+    })
+}
+
+fn rows_of(alloc: Global, count: u32) -> Result<Vec<Row>> {
+    let Some(time) = InstantTime::from_ms(INSTANT) else {
+        bail!("no time");
+    };
+    let mut rows = Vec::new(alloc);
+    for place in 0..count {
+        let row = row_at(alloc, time, place)?;
+        rows.push(row)?;
+    }
+    Ok(rows)
+}
+
+fn is_own(row: &Row) -> bool
+    ensures { OnTrue result (IsOwn row.now) }
+{
+    let (key, body) = (row.key.as_slice(), row.body.as_slice());
+    1 <= key.len()
+        && key.len() <= 1000
+        && body.len() <= 65_536
+        && std::str::from_utf8(key).is_ok()
+        && std::str::from_utf8(body).is_ok()
+}
+
+fn are_own(rows: &[Row]) -> bool
+    ensures { OnTrue result (All IsOwn rows.now) }
+{
+    rows.iter().all(|row| is_own(row))
+}
+
+fn written(alloc: Global, input: &[u8]) -> Result<Bytes> {
+    let count: u32 = std::str::from_utf8(input)?.trim().parse()?;
+    let rows = rows_of(alloc, count)?;
+    let codec = PlainRows::new(alloc)?;
+    let file = Name::from_text(alloc, FILE)?;
+    if !are_own(&rows) || file.as_str().len() > 65_536 {
+        bail!("a row of another table");
+    }
+    match write_base(alloc, &codec, &file, &rows, None) {
+        Ok(bytes) => Ok(bytes),
+        Err(_) => bail!("out of memory"),
+    }
+}
+
+fn told(alloc: Global, input: &[u8]) -> Result<Bytes> {
+    let codec = PlainRows::new(alloc)?;
+    let partition = Name::from_text(alloc, PARTITION)?;
+    let rows = match read_base(alloc, &codec, &partition, input) {
+        Ok(rows) => rows,
+        Err(BaseError::Memory) => bail!("out of memory"),
+        Err(BaseError::BadBase(_, at)) => bail!("no base file: byte {at}"),
+    };
+    let count = rows.len();
+    let mut sum = 0i64;
+    for row in rows.as_slice() {
+        sum = sum.saturating_add(row.rank);
+    }
+    let text = format!(in alloc; "{count} rows, ranks {sum}\n")?;
+    Ok(Bytes::from_slice(alloc, text.as_bytes())?)
+}
