@@ -1,25 +1,33 @@
 -- The snapshots of a run are folds of the instants that were completed when they began.
-use Rattle.std.proofs.Common.{◌≡◌, List, [], ◌∷◌, ◌++◌, map, refl, sym, ap, subst, ◌∙◌, append_assoc, None}
+use Rattle.std.proofs.Common.{◌≡◌, ◌<◌, ℕ, true, List, [], ◌∷◌, ◌++◌, map, refl, sym, ap, subst, ◌∙◌, append_assoc, arith, None}
+use Rattle.std.specs.Prelude.{nat_le}
+use Rattle.std.proofs.lemmas.Bool.Decides.{nat_tests}
 use Rattle.std.specs.List.{AllByRecursion}
+use Rattle.key_index.specs.Slots.{slot_of}
 use Rattle.job_script.specs.Rows.{row_of_input}
+use Rattle.job_script.specs.declared.script.InputRow.{InputRow}
 use Rattle.job_script.specs.declared.script.Line.{Line}
 use Rattle.job_script.specs.declared.script.Line.TheVariants.{Upsert, Snapshot}
 use Rattle.job_script.specs.declared.script.ScriptJob.{ScriptJob}
 use Rattle.table_answers.specs.InTurn.{CarriesForm, IsInTurn, IsMadeBy}
 use Rattle.table_answers.specs.NamedRuns.{AllNamesFit}
 use Rattle.table_answers.proofs.Beginnings.{legal_before, named_before}
+use Rattle.table_answers.proofs.Batches.{batch_written, whole_batch}
 use Rattle.table_answers.proofs.Made.{next_turn, query_carries, writer_carries}
 use Rattle.table_answers.proofs.SnapshotAnswers.{snapshot_is_fold}
 use Rattle.table_board.specs.HonestRuns.{IsUndamaged}
 use Rattle.table_core.specs.declared.job_reply.JobReply.{JobReply}
+use Rattle.table_core.specs.declared.job_reply.JobReply.TheVariants.{Committed}
 use Rattle.table_history.specs.Histories.{History}
 use Rattle.table_history.specs.JobLaw.{IsLegal}
 use Rattle.table_history.specs.declared.entry.Entry.{Entry}
 use Rattle.table_history.specs.declared.job.Job.{Job}
+use Rattle.table_history.specs.Targets.{one_group}
+use Rattle.upsert_writer.specs.BatchRows.{is_in_group}
 use Rattle.upsert_writer.specs.Blocks.{BlockForm}
 use Rattle.script_run.specs.Batches.{any_batch}
 use Rattle.script_run.specs.Lines.{AnswersLine}
-use Rattle.script_run.specs.Runs.{IsSnapshotOf, IsUndamagedAnswer, RanJobs, RanLine, job_of, table_of_form}
+use Rattle.script_run.specs.Runs.{ComesTo, IsUndamagedAnswer, RanJobs, RanLine, job_of, table_of_form}
 use Rattle.script_run.proofs.Tellings.{line_undamaged}
 
 -- ---- parts of a history
@@ -87,12 +95,31 @@ turned_next form Stood job reply before after turned ran = record {
   carries = line_carries form job.line (job_of job.number) before after ran.mine reply turned.carries ran.made ran.answers;
 }
 
--- ---- snapshots
+-- ---- what answers come to
 
-snapshot_of : (form : BlockForm) (line : Line) (job : Job) (before after : History) (mine : List Entry) (reply : JobReply) → IsMadeBy job before after mine → AnswersLine form line mine reply → Turned form before
-    → IsWhole form after → IsSnapshotOf form line before reply
-snapshot_of form (Upsert rows) job before after mine reply made answers turned whole = tt
-snapshot_of form Snapshot job before after mine reply made answers turned whole =
+in_range : (key : List ℕ) → slot_of key < 65_536
+unfolding slot_of
+in_range key = omega arith
+
+in_one_group : (row : InputRow) → is_in_group one_group (row_of_input row) ≡ true
+in_one_group row =
+    let within = in_range row.key in
+    let from : nat_le 0 (slot_of row.key) ≡ true = grind (arith, nat_tests) in
+    let to : nat_le (slot_of row.key) 65_535 ≡ true = grind (arith, nat_tests) in
+    rw (from, to) refl
+
+all_in_one_group : (rows : List InputRow) → AllByRecursion (λ row. is_in_group one_group row ≡ true) (map row_of_input rows)
+all_in_one_group [] = tt
+all_in_one_group (row ∷ rows) = (in_one_group row, all_in_one_group rows)
+
+comes_to : (form : BlockForm) (line : Line) (job : Job) (before after : History) (mine : List Entry) (reply : JobReply) → IsMadeBy job before after mine → AnswersLine form line mine reply → Turned form before
+    → IsWhole form after → ComesTo form line before after reply
+comes_to form (Upsert rows) job before after mine (Committed t) made answers turned whole = record {
+  completed = (batch_written any_batch form (map row_of_input rows) before after job mine t made whole.legal answers.wrote answers.answers).completed;
+  wrote = whole_batch any_batch form (map row_of_input rows) before after job mine t one_group made whole.legal answers.wrote answers.answers refl (all_in_one_group rows);
+}
+comes_to form (Upsert rows) job before after mine reply made answers turned whole = tt
+comes_to form Snapshot job before after mine reply made answers turned whole =
     let entries : AllByRecursion IsUndamaged mine = first_of IsUndamaged mine before (subst (AllByRecursion IsUndamaged) made.are whole.undamaged) in
     let named : AllNamesFit (table_of_form form) before = named_before (table_of_form form) before mine (subst (AllNamesFit (table_of_form form)) made.are whole.named) in
     snapshot_is_fold any_batch form before after job mine None reply made whole.legal named turned.turn turned.carries entries answers
@@ -112,7 +139,7 @@ with_snapshots form Stood (j ∷ jobs) (r ∷ replies) before after H ran turned
         mine = line.mine;
         made = line.made;
         answers = line.answers;
-        rows = λ stood. snapshot_of form j.line (job_of j.number) before between line.mine r line.made line.answers turned (whole_before form between H then (whole stood));
+        comes = λ stood. comes_to form j.line (job_of j.number) before between line.mine r line.made line.answers turned (whole_before form between H then (whole stood));
       },
       with_snapshots form Stood jobs replies between after H ran.2 (turned_next form ⊥ j r before between turned line) from whole,
     )
@@ -128,4 +155,4 @@ answers_undamaged form Stood (j ∷ jobs) (r ∷ replies) before after H ran sto
     let then : From ran.0 H = from_on ran.0 after H (from_jobs form Stood jobs replies ran.0 after ran.2) from in
     let entries : AllByRecursion IsUndamaged ran.0 = before_of IsUndamaged then.more ran.0 (subst (AllByRecursion IsUndamaged) then.is all) in
     let mine : AllByRecursion IsUndamaged line.mine = first_of IsUndamaged line.mine before (subst (AllByRecursion IsUndamaged) line.made.are entries) in
-    (line_undamaged form j.line line.mine before r mine line.answers (line.rows stood), answers_undamaged form Stood jobs replies ran.0 after H ran.2 stood from all)
+    (line_undamaged form j.line line.mine before ran.0 r mine line.answers (line.comes stood), answers_undamaged form Stood jobs replies ran.0 after H ran.2 stood from all)

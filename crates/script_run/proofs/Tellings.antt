@@ -19,7 +19,7 @@ use Rattle.table_query.specs.GroupReading.{Damage, TableReading}
 use Rattle.table_query.specs.ReadBytes.{bytes_read, pinned}
 use Rattle.upsert_writer.specs.Blocks.{BlockForm}
 use Rattle.script_run.specs.Lines.{AnswersLine}
-use Rattle.script_run.specs.Runs.{IsSnapshotOf, IsUndamagedAnswer}
+use Rattle.script_run.specs.Runs.{ComesTo, IsUndamagedAnswer}
 
 -- ---- damage
 
@@ -39,14 +39,14 @@ as_told : (o : Option JobReply) (given : JobReply) → IsTold o given → IfSome
 as_told (Some answer) given is whole = subst IsUndamagedAnswer (sym is) whole
 as_told None given is whole = subst IsUndamagedAnswer (sym is) tt
 
-snapshot_undamaged : (form : BlockForm) (H : History) (given : JobReply) → IsSnapshotOf form Snapshot H given → IsUndamagedAnswer given
-snapshot_undamaged form H (job.Damaged name cause at) is = absurd is
-snapshot_undamaged form H given is = tt
+snapshot_undamaged : (form : BlockForm) (H after : History) (given : JobReply) → ComesTo form Snapshot H after given → IsUndamagedAnswer given
+snapshot_undamaged form H after (job.Damaged name cause at) is = absurd is
+snapshot_undamaged form H after given is = tt
 
-pub line_undamaged : (form : BlockForm) (line : Line) (mine : List Entry) (H : History) (given : JobReply) → AllByRecursion IsUndamaged mine → AnswersLine form line mine given → IsSnapshotOf form line H given
+pub line_undamaged : (form : BlockForm) (line : Line) (mine : List Entry) (H after : History) (given : JobReply) → AllByRecursion IsUndamaged mine → AnswersLine form line mine given → ComesTo form line H after given
     → IsUndamagedAnswer given
-line_undamaged form (Upsert rows) mine H given all answers is = as_told (told mine) given answers.answers.told (told_undamaged mine all)
-line_undamaged form Snapshot mine H given all answers is = snapshot_undamaged form H given is
+line_undamaged form (Upsert rows) mine H after given all answers is = as_told (told mine) given answers.answers.told (told_undamaged mine all)
+line_undamaged form Snapshot mine H after given all answers is = snapshot_undamaged form H after given is
 
 -- ---- faults
 

@@ -54,7 +54,7 @@ ran_line form job of before mid after reply is same below adds answers =
       mine = adds_own.mine;
       made = made own_job before after adds_own below;
       answers = subst (λ (es : List Entry). AnswersLine form job.line es reply) mine_is answers;
-      rows = λ none. absurd none;
+      comes = λ none. absurd none;
     }
 
 -- ---- the lines of entries

@@ -96,7 +96,7 @@ ran_earlier form Stood Then [] [] before after earlier same = same
 ran_earlier form Stood Then [] (r ∷ replies) before after earlier ran = absurd ran
 ran_earlier form Stood Then (j ∷ jobs) [] before after earlier ran = absurd ran
 ran_earlier form Stood Then (j ∷ jobs) (r ∷ replies) before after earlier ran =
-    (ran.0, record { mine = ran.1.mine; made = ran.1.made; answers = ran.1.answers; rows = λ stood. ran.1.rows (earlier stood) }, ran_earlier form Stood Then jobs replies ran.0 after earlier ran.2)
+    (ran.0, record { mine = ran.1.mine; made = ran.1.made; answers = ran.1.answers; comes = λ stood. ran.1.comes (earlier stood) }, ran_earlier form Stood Then jobs replies ran.0 after earlier ran.2)
 
 counted_earlier : (first later now : ℕ) (H : History) → first ≤ later → FaultsCounted later H now → FaultsCounted first H now
 counted_earlier first later now H le (inl counted) = inl (omega arith)

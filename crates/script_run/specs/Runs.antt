@@ -1,26 +1,32 @@
 -- What a run of a script is, for its jobs in one lane.
-use Rattle.std.specs.Prelude.{◌≡◌, ℕ, List, [], ◌∷◌, length, Some, None}
+use Rattle.std.specs.Prelude.{◌≡◌, ℕ, true, List, [], ◌∷◌, map, length, Some, None}
 use Rattle.std.specs.FinMap.{empty}
 use Rattle.std.specs.List.{AllByRecursion}
 use Rattle.hudi_base.specs.Clock.{ClockState}
 use Rattle.hudi_base.specs.Files.{FileMap, Told}
 use Rattle.hudi_base.specs.Store.{StoreState}
 use Rattle.hudi_base.specs.declared.operation.Operation.{Operation}
+use Rattle.job_script.specs.Rows.{row_of_input}
 use Rattle.job_script.specs.declared.script.Line.{Line}
 use Rattle.job_script.specs.declared.script.Line.TheVariants.{Upsert, Snapshot}
 use Rattle.job_script.specs.declared.script.ScriptJob.{ScriptJob}
+use Rattle.payload_merge.specs.declared.row.Row.{Row}
+use Rattle.payload_merge.specs.declared.row.Write.TheVariants.{Put}
 use Rattle.table_answers.specs.InTurn.{IsMadeBy}
+use Rattle.table_answers.specs.InstantWrites.{writes_of}
 use Rattle.table_answers.specs.Snapshots.{AnswersSnapshot}
 use Rattle.table_board.specs.Boards.{DrawnTimes, FaultsCounted}
 use Rattle.table_board.specs.HonestRuns.{IsUndamaged, StandsThroughout}
 use Rattle.table_board.specs.KnownEntries.{known_entries}
 use Rattle.table_core.specs.declared.job_reply.JobReply.{JobReply}
-use Rattle.table_core.specs.declared.job_reply.JobReply.TheVariants.{Damaged}
+use Rattle.table_core.specs.declared.job_reply.JobReply.TheVariants.{Committed, Damaged}
+use Rattle.table_history.specs.Answers.{is_completed}
 use Rattle.table_history.specs.Histories.{History}
 use Rattle.table_history.specs.JobLaw.{IsLegal}
 use Rattle.table_history.specs.Tables.{Table, fresh}
 use Rattle.table_history.specs.declared.entry.Entry.{Entry}
 use Rattle.table_history.specs.declared.job.Job.{Job}
+use Rattle.upsert_writer.specs.BatchRows.{rows_from}
 use Rattle.upsert_writer.specs.Blocks.{BlockForm}
 use Rattle.script_run.specs.Batches.{any_batch}
 use Rattle.script_run.specs.Lines.{AnswersLine}
@@ -35,19 +41,26 @@ job_of line = record { lane = 1; line = line }
 abbrev pub table_of_form : BlockForm → Table
 table_of_form form = fresh form.table
 
--- a snapshot's answer is that of the instants which are completed after this history
-abbrev pub IsSnapshotOf : BlockForm → Line → History → JobReply → Type 0
-IsSnapshotOf form (Upsert rows) H reply = Unit {0}
-IsSnapshotOf form Snapshot H reply = AnswersSnapshot form (table_of_form form) H None reply
+-- the instant is completed, and its writes are these rows, all of them in their order
+pub record IsCommitted (form : BlockForm) (H : History) (t : ℕ) (rows : List Row) : Type 0 where
+  pub completed : is_completed (table_of_form form) H t ≡ true
+  pub wrote : writes_of form (table_of_form form) H t ≡ map Put (rows_from t 0 rows)
+
+-- What an answer comes to in the table: an upsert that is committed wrote the rows of its line, and a snapshot is that of
+-- the instants which were completed when it began.
+abbrev pub ComesTo : BlockForm → Line → History → History → JobReply → Type 0
+ComesTo form (Upsert rows) before after (Committed t) = IsCommitted form after t (map row_of_input rows)
+ComesTo form (Upsert rows) before after reply = Unit {0}
+ComesTo form Snapshot before after reply = AnswersSnapshot form (table_of_form form) before None reply
 
 -- The job of a line made these entries, and its answer is the one that they tell, of a query also by the bytes that it
--- read. Where the store is honest and stood, a snapshot is that of the instants which were completed when it began.
+-- read. Where the store is honest and stood, it comes to what it has to.
 pub record RanLine (form : BlockForm) (Stood : Type 0) (job : ScriptJob) (before after : History) (reply : JobReply)
     : Type 0 where
   pub mine : List Entry
   pub made : IsMadeBy (job_of job.number) before after mine
   pub answers : AnswersLine form job.line mine reply
-  pub rows : Stood → IsSnapshotOf form job.line before reply
+  pub comes : Stood → ComesTo form job.line before after reply
 
 -- The jobs of a script, one after another, each with its reply.
 abbrev pub RanJobs : BlockForm → Type 0 → List ScriptJob → List JobReply → History → History → Type 0
