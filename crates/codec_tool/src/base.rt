@@ -14,7 +14,9 @@ use std::fmt::Write;
 
 // The beginning of the year 2024, in milliseconds since the beginning of 1970.
 const INSTANT: u64 = 1_704_067_200_000;
+
 const PARTITION: &str = "x";
+
 const FILE: &str = "0000ffff-c50d-5b40-af36-b8949fde563e-0";
 
 /// What a command makes of the input: `write` the file of as many rows as the input says, `read` how many rows a file has

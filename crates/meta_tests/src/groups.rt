@@ -272,9 +272,15 @@ fn groups_without_slots_have_views(rt: HostRuntime) -> Result<(), Fail> {
 }
 
 fn push_log(alloc: Global, number: u32, files: &mut Vec<(FileName, u64)>) -> Result<(), Fail> {
-    let slots = if number % 2 == 0 { "00007fff" } else { "8000ffff" };
+    let slots = if number % 2 == 0 {
+        "00007fff"
+    } else {
+        "8000ffff"
+    };
     let version = number / 2 + 1;
-    let name = format!(in alloc; "x/.{slots}-{TAIL}-0_20000101000000000.log.{version}_0-0-{number}")?;
+    let name = format!(in alloc;
+        "x/.{slots}-{TAIL}-0_20000101000000000.log.{version}_0-0-{number}"
+    )?;
     files.push((file_of(alloc, name.as_str())?, 1))?;
     Ok(())
 }

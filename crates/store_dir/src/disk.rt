@@ -88,7 +88,10 @@ fn make_empty<R: Files>(rt: &R, path: &str) -> io::Result<bool> {
 
 // Makes a file that isn't there, in a folder that is.
 fn create_new<R: Files>(rt: &R, path: &str) -> io::Result<()> {
-    OpenOptions::new().write(true).create_new(true).open(rt, path)?;
+    OpenOptions::new()
+        .write(true)
+        .create_new(true)
+        .open(rt, path)?;
     Ok(())
 }
 
@@ -124,7 +127,10 @@ pub fn append_bytes<R: Files>(rt: &R, path: &str, bytes: &[u8]) -> io::Result<()
 fn append_first<R: Files>(rt: &R, path: &str, bytes: &[u8]) -> io::Result<()> {
     let folder = folder_of(path);
     make_folders(rt, folder)?;
-    write_synced(OpenOptions::new().append(true).create(true).open(rt, path)?, bytes)?;
+    write_synced(
+        OpenOptions::new().append(true).create(true).open(rt, path)?,
+        bytes,
+    )?;
     sync_folder(rt, folder)
 }
 

@@ -57,6 +57,6 @@ returns g c =
     (λ (file : List ℕ). (file ≡ c.loop-rest.bytes.items ++ end_bytes c.columns.result.now (length c.args.rows.now) groups) × HasForm (meta_with c.columns.result.now (length c.args.rows.now) groups))
     (λ (file : List ℕ). IsFileOf m c.args.rows.now file)
     (λ file is. file_ended m c.columns.result.now c.args.rows.now inv.0 c.loop-rest.bytes.items file c.loop-rest.groups.items (length c.args.rows.now) c.columns.ensures (all_done inv.0 c.loop-rest.rest.now c.args.rows.now inv.1 none) refl inv.2
-        (subst (λ (groups : List RowGroup). file ≡ c.loop-rest.bytes.items ++ end_bytes c.columns.result.now (length c.args.rows.now) groups) c.from_vec.ensures is.0)
-        (subst (λ (groups : List RowGroup). HasForm (meta_with c.columns.result.now (length c.args.rows.now) groups)) c.from_vec.ensures is.1))
+    (subst (λ (groups : List RowGroup). file ≡ c.loop-rest.bytes.items ++ end_bytes c.columns.result.now (length c.args.rows.now) groups) c.from_vec.ensures is.0)
+    (subst (λ (groups : List RowGroup). HasForm (meta_with c.columns.result.now (length c.args.rows.now) groups)) c.from_vec.ensures is.1))
     (ok_both c.finish.result (λ (file : List ℕ). file ≡ c.loop-rest.bytes.items ++ end_bytes c.columns.result.now (length c.args.rows.now) groups) (λ (file : List ℕ). HasForm (meta_with c.columns.result.now (length c.args.rows.now) groups)) c.finish.ensures.bytes c.finish.ensures.form)
