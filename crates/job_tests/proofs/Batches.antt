@@ -1,9 +1,8 @@
 -- The rows of a script are a batch that can be written.
-use Rattle.std.proofs.Common.{◌≡◌, ◌≢◌, ℕ, ◌+◌, ◌<◌, ◌≤◌, ◌^◌, List, [], ◌∷◌, length, map, All, refl, ap, arith}
-use Rattle.std.specs.Prelude.{codes, IsTrue}
+use Rattle.std.proofs.Common.{ℕ, ◌+◌, List, [], ◌∷◌, map, All, refl, arith}
+use Rattle.std.specs.Prelude.{codes}
 use Rattle.std.proofs.lemmas.List.{length-map}
 use Rattle.std.proofs.lemmas.List.Elements.{All-nil, All-cons, All-map, All-weaker, All-head, All-tail}
-use Rattle.hudi_base.specs.InstantTime.{IsTime}
 use Rattle.payload_merge.specs.declared.row.Row.{Row}
 use Rattle.table_forms.specs.NameForms.{IsPartitionPath}
 use Rattle.upsert_writer.specs.BatchRows.{IsBatch, rows_from}

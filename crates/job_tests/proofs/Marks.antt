@@ -1,5 +1,5 @@
 -- A job of whose line no mark is has made no entry.
-use Rattle.std.proofs.Common.{◌≡◌, ◌≢◌, ℕ, Bool, true, false, ◌&&◌, cond, eqb, List, [], ◌∷◌, ◌++◌, length, map, Some, All, refl, sym, ap, ◌∙◌, arith}
+use Rattle.std.proofs.Common.{◌≡◌, ◌≢◌, ℕ, Bool, true, false, ◌&&◌, cond, eqb, List, [], ◌∷◌, ◌++◌, length, map, Some, All, refl, ap, ◌∙◌, arith}
 use Rattle.std.specs.Prelude.{reverse}
 use Rattle.std.proofs.lemmas.Grind.{common_steps}
 use Rattle.std.proofs.lemmas.List.{reverse-append, map-append}
@@ -8,7 +8,6 @@ use Rattle.table_board.specs.Boards.{placed_own}
 use Rattle.table_core.specs.Marks.{mark_of}
 use Rattle.table_history.specs.Histories.{History, is_job}
 use Rattle.table_history.specs.JobLaw.{PlacedEntry}
-use Rattle.table_history.specs.declared.entry.Entry.{Entry}
 use Rattle.table_history.specs.declared.entry.Mark.{Mark}
 use Rattle.table_history.specs.declared.job.Job.{Job}
 use Rattle.job_tests.specs.NewJobs.{IsNew}

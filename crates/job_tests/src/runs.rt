@@ -75,8 +75,8 @@ fn a_failed_append_and_a_failed_finish_leave_the_next_upsert_alone(
     Ok(())
 }
 
-// Snapshots before, between and after upserts. Of two rows of a key the one of the greater rank stays, and at equal ranks
-// the later.
+// Snapshots before, between and after upserts. Of two rows of a key the one of the greater rank stays, and at equal
+// ranks the later.
 const BETWEEN: &str = "{\"job\":\"snapshot\"}
 {\"job\":\"upsert\",\"rows\":[{\"key\":\"a\",\"rank\":5,\"body\":\"one\"},{\"key\":\"b\",\"rank\":1,\"body\":\"two\"}]}
 {\"job\":\"snapshot\"}
@@ -158,8 +158,8 @@ fn a_long_log_is_read_in_pieces(rt: HostRuntime) -> Result<(), Fail> {
         script.as_str(),
         &Open {},
     )?;
-    // Two lines of 37 bytes without rows, 299 commas, and 300 rows of 117 bytes besides the body and the digits of key and
-    // place: 10 of one digit, 90 of two and 200 of three.
+    // Two lines of 37 bytes without rows, 299 commas, and 300 rows of 117 bytes besides the body and the digits of key
+    // and place: 10 of one digit, 90 of two and 200 of three.
     let rows = 300 * (117 + 65_536) + 2 * (10 + 90 * 2 + 200 * 3);
     assert_eq!(rt; text.len(), 37 + 37 + 299 + rows);
     let mut journal = Vec::new(alloc);

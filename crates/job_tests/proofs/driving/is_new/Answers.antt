@@ -1,4 +1,4 @@
-use Rattle.std.proofs.Common.{◌≡◌, List, take, map, subst, ◌∙◌, sym, All}
+use Rattle.std.proofs.Common.{◌≡◌, List, take, map, subst, ◌∙◌, All}
 use Rattle.std.specs.Prelude.{reverse}
 use Rattle.std.proofs.lemmas.List.{take_all}
 use Rattle.std.proofs.lemmas.List.Elements.{All-more}

@@ -1,5 +1,4 @@
-use Rattle.std.proofs.Common.{List, subst, sym}
-use Rattle.payload_merge.specs.declared.row.Row.{Row}
+use Rattle.std.proofs.Common.{subst, sym}
 use Rattle.plain_rows.specs.OwnRows.{IsOwn}
 use Rattle.upsert_writer.specs.BatchRows.{IsBatch}
 use Rattle.job_tests.proofs.Batches.{batch_of_sized}
