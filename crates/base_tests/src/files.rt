@@ -1,13 +1,9 @@
 // Files of rows that are made by one rule.
-ghost use Rattle.std.specs.Prelude.{◌≡◌, ◌≤◌, length, All};
-ghost use Rattle.std.specs.Bool.{OnTrue};
-ghost use Rattle.plain_rows.specs.OwnRows.{IsOwn};
-
 use base_cells::{BaseCause, BaseError};
 use base_file::{read_base, write_base};
 use hudi_base::{Bytes, InstantTime, Name};
 use payload_merge::Row;
-use plain_rows::PlainRows;
+use plain_rows::{PlainRows, are_own};
 use std::alloc::Global;
 use std::test::*;
 
@@ -38,23 +34,6 @@ fn rows_of(alloc: Global, count: u32, again: u32) -> Result<Vec<Row>, Fail> {
         rows.push(row_at(alloc, place, number)?)?;
     }
     Ok(rows)
-}
-
-fn is_own(row: &Row) -> bool
-    ensures { OnTrue result (IsOwn row.now) }
-{
-    let (key, body) = (row.key.as_slice(), row.body.as_slice());
-    1 <= key.len()
-        && key.len() <= 1000
-        && body.len() <= 65_536
-        && std::str::from_utf8(key).is_ok()
-        && std::str::from_utf8(body).is_ok()
-}
-
-fn are_own(rows: &[Row]) -> bool
-    ensures { OnTrue result (All IsOwn rows.now) }
-{
-    rows.iter().all(|row| is_own(row))
 }
 
 fn file_of(alloc: Global, codec: &PlainRows, rows: &[Row]) -> Result<Bytes, Fail> {
@@ -101,6 +80,16 @@ fn what_is_written_is_read_back(rt: HostRuntime) -> Result<(), Fail> {
     Ok(())
 }
 
+// Where the footer begins: its length stands before the last four bytes.
+fn footer_start(bytes: &[u8]) -> Option<usize> {
+    let end = bytes.len().checked_sub(8)?;
+    let mut len = 0usize;
+    for byte in bytes.get(end..end + 4)?.iter().rev() {
+        len = len.checked_mul(256)?.checked_add(*byte as usize)?;
+    }
+    end.checked_sub(len)
+}
+
 // The place in a refusal for a row.
 fn row_refusal(found: Result<(), BaseError>) -> Option<usize> {
     match found {
@@ -118,15 +107,8 @@ fn a_key_that_comes_twice_is_refused(rt: HostRuntime) -> Result<(), Fail> {
     for again in [1, 10_000] {
         let rows = rows_of(alloc, 10_001, again)?;
         let file = file_of(alloc, &codec, &rows)?;
-        let bytes = file.as_slice();
-        let size = bytes.len();
-        // The length of the footer stands before the last four bytes.
-        let mut footer = 0;
-        for byte in bytes[size - 8..size - 4].iter().rev() {
-            footer = footer * 256 + *byte as usize;
-        }
-        let found = read_base(alloc, &codec, &partition, bytes).map(|_| ());
-        assert_eq!(rt; row_refusal(found), Some(size - 8 - footer));
+        let found = read_base(alloc, &codec, &partition, file.as_slice()).map(|_| ());
+        assert_eq!(rt; row_refusal(found), footer_start(file.as_slice()));
     }
     Ok(())
 }

@@ -1,14 +1,10 @@
 // Base files of rows that are made by one rule.
-ghost use Rattle.std.specs.Prelude.{◌≡◌, ◌≤◌, length, All, IfOk};
-ghost use Rattle.std.specs.Bool.{OnTrue};
-ghost use Rattle.plain_rows.specs.OwnRows.{IsOwn};
-
 use anyhow::{Result, bail};
 use base_cells::BaseError;
 use base_file::{read_base, write_base};
 use hudi_base::{Bytes, InstantTime, Name};
 use payload_merge::Row;
-use plain_rows::PlainRows;
+use plain_rows::{PlainRows, are_own};
 use std::alloc::Global;
 use std::fmt::Write;
 
@@ -56,23 +52,6 @@ fn rows_of(alloc: Global, count: u32) -> Result<Vec<Row>> {
         rows.push(row)?;
     }
     Ok(rows)
-}
-
-fn is_own(row: &Row) -> bool
-    ensures { OnTrue result (IsOwn row.now) }
-{
-    let (key, body) = (row.key.as_slice(), row.body.as_slice());
-    1 <= key.len()
-        && key.len() <= 1000
-        && body.len() <= 65_536
-        && std::str::from_utf8(key).is_ok()
-        && std::str::from_utf8(body).is_ok()
-}
-
-fn are_own(rows: &[Row]) -> bool
-    ensures { OnTrue result (All IsOwn rows.now) }
-{
-    rows.iter().all(|row| is_own(row))
 }
 
 fn written(alloc: Global, input: &[u8]) -> Result<Bytes> {

@@ -18,7 +18,7 @@ own_from t place [] sized = All-nil IsOwn
 own_from t place (row ∷ rows) sized =
     let first = All-head IsSized row rows sized in
     All-cons IsOwn (record (row_of_input row) { commit = t; seq = place }) (rows_from t (place + 1) (map row_of_input rows))
-    (record { key_from = first.key_from; key_to = first.key_to; body_to = first.body_to })
+    (record { key_from = first.key_from; key_to = first.key_to; body_to = first.body_to; key_text = first.key_text; body_text = first.body_text })
     (own_from t (place + 1) rows (All-tail IsSized row rows sized))
 
 pub batch_of_sized : (rows : List InputRow) → AreSized rows → IsBatch IsOwn (map row_of_input rows)

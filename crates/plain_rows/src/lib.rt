@@ -7,6 +7,7 @@
 
 mod cells;
 mod codec;
+mod own_rows;
 mod owned;
 mod read_error;
 mod reading;
@@ -14,3 +15,4 @@ mod texts;
 mod writing;
 
 pub use codec::PlainRows;
+pub use own_rows::are_own;
