@@ -54,18 +54,22 @@ fn rows_of(alloc: Global, count: u32) -> Result<Vec<Row>> {
     Ok(rows)
 }
 
+fn file_of(alloc: Global, codec: &PlainRows, rows: &[Row]) -> Result<Bytes> {
+    let file = Name::from_text(alloc, FILE)?;
+    if !are_own(rows) || file.as_str().len() > 65_536 {
+        bail!("a row of another table");
+    }
+    match write_base(alloc, codec, &file, rows, None) {
+        Ok(bytes) => Ok(bytes),
+        Err(_) => bail!("out of memory"),
+    }
+}
+
 fn written(alloc: Global, input: &[u8]) -> Result<Bytes> {
     let count: u32 = std::str::from_utf8(input)?.trim().parse()?;
     let rows = rows_of(alloc, count)?;
     let codec = PlainRows::new(alloc)?;
-    let file = Name::from_text(alloc, FILE)?;
-    if !are_own(&rows) || file.as_str().len() > 65_536 {
-        bail!("a row of another table");
-    }
-    match write_base(alloc, &codec, &file, &rows, None) {
-        Ok(bytes) => Ok(bytes),
-        Err(_) => bail!("out of memory"),
-    }
+    file_of(alloc, &codec, &rows)
 }
 
 fn told(alloc: Global, input: &[u8]) -> Result<Bytes> {
