@@ -1,7 +1,7 @@
 use Rattle.std.proofs.Common.{◌≡◌, [], take, drop, map}
 use Rattle.base_file.specs.BaseFiles.{keys_differ, row_key}
 use Rattle.base_file.specs.KeyTables.{IsTableOf}
-use Rattle.base_file.proofs.key_set.keys_differ.Given as goal
+use Rattle.base_file.proofs.key_set.differ_by_table.Given as goal
 
 abbrev pub invariant-loop-row : goal.invariant-loop-row
 invariant-loop-row l =

@@ -2,7 +2,7 @@ use Rattle.std.proofs.Common.{◌∙◌, ◌<◌, ◌++◌, ◌∷◌, [], List,
 use Rattle.base_file.specs.BaseFiles.{row_key, is_among, keys_differ}
 use Rattle.base_file.specs.KeyTables.{IsTableOf}
 use Rattle.base_file.proofs.KeyLemmas.{key_again, key_new, keys_more, keys_end, no_key}
-use Rattle.base_file.proofs.key_set.keys_differ.Goals as goal
+use Rattle.base_file.proofs.key_set.differ_by_table.Goals as goal
 
 pub loop-row-init : goal.loop-row-init
 loop-row-init c = (no_key c.new-table.result c.new-table.ensures.empty, refl)
