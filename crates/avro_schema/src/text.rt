@@ -1,5 +1,5 @@
 // The written text of a schema.
-ghost use Rattle.std.specs.Prelude.{◌≡◌, List, ℕ, Ok, IfOk, map};
+ghost use Rattle.std.specs.Prelude.{◌≡◌, List, ℕ, Ok, IfOk, IsUtf8, map};
 ghost use Rattle.serde_json.specs.Data as json;
 ghost use Rattle.serde_json.specs.View.{view, items_of};
 ghost use Rattle.avro_schema.specs.AvroTypes.{type_of, field_of, branches_of, fields_of, fixed_of, enum_of, array_of, map_of, union_of, record_of};
@@ -136,6 +136,7 @@ fn schema_json(alloc: Global, schema: &Schema) -> Result<Value, AllocError>
 /// A schema that some text names is read again from its written text. The only error is want of memory.
 pub fn text_of(alloc: Global, schema: &Schema) -> Result<Bytes, AllocError>
     ensures text { IfOk result (λ text. text ≡ type_text (type_of schema.now)) }
+    ensures utf8 { IfOk result IsUtf8 }
     ensures reads_back { IfOk result (λ text. (json : List ℕ) → type_named json ≡ Ok (type_of schema.now) → type_named text ≡ Ok (type_of schema.now)) }
 {
     let value = schema_json(alloc, schema)?;

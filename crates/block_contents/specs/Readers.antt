@@ -8,7 +8,7 @@ use Rattle.block_contents.specs.declared.read_error.ReadError.{ReadError}
 use Rattle.block_contents.specs.declared.read_error.ReadError.TheVariants.{Memory, Field}
 use Rattle.payload_merge.specs.declared.row_error.RowError.{RowError}
 use Rattle.payload_merge.specs.declared.row_error.RowError.TheVariants as errors
-use Rattle.byte_fields.specs.Reading.{left_of}
+use Rattle.byte_fields.specs.Reading.{left_of, of_item}
 use Rattle.block_contents.specs.declared.deletes.DeleteRef.{DeleteRef}
 
 -- The reader answers what reading gives, unless memory has run out. `view` turns its value into the definition's.
@@ -23,6 +23,11 @@ Reads view (Err error) read = Fails error read
 -- a lent delete as a delete in a partition
 abbrev pub delete_in : List ℕ → DeleteRef → Write
 delete_in partition lent = Del partition lent.key.now lent.rank
+
+-- the same error of the item that begins with these bytes
+abbrev pub error_of_item : List ℕ → ReadError → ReadError
+error_of_item item Memory = Memory
+error_of_item item (Field error) = Field (of_item item error)
 
 -- the error of a content of so many bytes
 abbrev pub row_error : ℕ → ReadError → RowError

@@ -11,3 +11,4 @@ mod read_error;
 
 pub use content_head::{count_at, put_head};
 pub use deletes::{delete_block, delete_writes};
+pub use read_error::ReadError;

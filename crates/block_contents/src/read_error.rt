@@ -1,21 +1,31 @@
 // Why a content, or a part of it, was not read.
 ghost use Rattle.std.specs.Prelude.{◌≡◌};
-ghost use Rattle.block_contents.specs.Readers.{row_error};
+ghost use Rattle.block_contents.specs.Readers.{error_of_item, row_error};
 
 use byte_fields::FieldError;
 use payload_merge::RowError;
 use std::alloc::{AllocError, AllocFailed};
 
-// Want of memory, or what can't be read.
+/// Why a content, or a part of it, was not read: want of memory, or an item that is short or bad.
 #[derive(Clone, Copy)]
-pub(crate) enum ReadError {
+pub enum ReadError {
     Memory,
     Field(FieldError),
 }
 
 impl ReadError {
-    // The error of a content of so many bytes.
-    pub(crate) fn of_content(self, total: usize) -> RowError
+    /// The same error of the item that begins with these bytes, of which the one that failed is a part.
+    pub fn of_item(self, item: &[u8]) -> ReadError
+        ensures { result ≡ error_of_item item.now self }
+    {
+        match self {
+            ReadError::Memory => ReadError::Memory,
+            ReadError::Field(error) => ReadError::Field(error.of_item(item)),
+        }
+    }
+
+    /// The error of a content of so many bytes.
+    pub fn of_content(self, total: usize) -> RowError
         ensures { result ≡ row_error total self }
     {
         match self {

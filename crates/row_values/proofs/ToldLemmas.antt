@@ -1,5 +1,5 @@
 -- Properties that some text says have fields of their types.
-use Rattle.std.proofs.Common.{◌≡◌, ℕ, Bool, true, false, ◌&&◌, List, Option, Some, None, IsTrue, refl, sym, ap, ◌∙◌, subst}
+use Rattle.std.proofs.Common.{◌≡◌, ℕ, Bool, true, false, List, Option, Some, None, IsTrue, refl, sym, ◌∙◌, subst}
 use Rattle.std.proofs.lemmas.Bool.{false≢true}
 use Rattle.std.specs.Prelude.{option_map, option_and_then, unwrap_or, slice_get, IfSome}
 use Rattle.avro_schema.specs.AvroTypes.{AvroType, record_of, type_of}

@@ -92,8 +92,8 @@ fn cell_at<'a>(cells: &[CellRef<'a>], place: u32) -> Option<CellRef<'a>>
     cells.get(place as usize).copied()
 }
 
-// The text of the cell at a place.
-pub(crate) fn text_at<'a>(cells: &[CellRef<'a>], place: u32) -> Option<&'a str>
+/// The text of the cell at a place, if it is one.
+pub fn text_at<'a>(cells: &[CellRef<'a>], place: u32) -> Option<&'a str>
     ensures { option_map (λ text. text.now) result ≡ text_at place (cells_view cells.now) }
 {
     match cell_at(cells, place) {
@@ -113,8 +113,8 @@ fn number_at(cells: &[CellRef<'_>], place: u32) -> Option<i64>
     }
 }
 
-// The rank of a row with these cells, where the ordering field isn't null.
-pub(crate) fn rank_in(ordering: Option<u32>, cells: &[CellRef<'_>]) -> Option<i64>
+/// The rank of a row with these cells: 0 where there is no ordering field, and none where the field is null.
+pub fn rank_in(ordering: Option<u32>, cells: &[CellRef<'_>]) -> Option<i64>
     ensures { result ≡ rank_in ordering (cells_view cells.now) }
 {
     match ordering {

@@ -14,8 +14,8 @@ mod new_layout;
 mod new_row;
 mod row_layout;
 
-pub use cell_ref::CellRef;
+pub use cell_ref::{CellRef, rank_in, text_at};
 pub use flat_field::{CellType, FlatField, FlatFields};
 pub use laws::told_properties_have_typed_places;
-pub use new_row::{MAX_BODY_BYTES, MAX_KEY_BYTES};
+pub use new_row::{MAX_BODY_BYTES, MAX_KEY_BYTES, put_fields};
 pub use row_layout::RowLayout;

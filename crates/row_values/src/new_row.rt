@@ -47,8 +47,8 @@ fn partition_path<'a>(layout: &RowLayout, cells: &[CellRef<'a>]) -> Option<&'a s
     }
 }
 
-// Adds the written forms of the values of fields.
-fn put_fields(
+/// Adds the written forms of the values of fields, one for each cell. The only error is want of memory.
+pub fn put_fields(
     out: &mut Vec<u8>,
     fields: &[FlatField],
     cells: &[CellRef<'_>],

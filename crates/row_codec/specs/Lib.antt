@@ -1,0 +1,2 @@
+pub mod JsonOutput
+pub mod Codec
