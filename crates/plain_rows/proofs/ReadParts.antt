@@ -5,9 +5,10 @@ use Rattle.payload_merge.specs.declared.row.Row.{Row}
 use Rattle.payload_merge.specs.declared.row.Write.{Write}
 use Rattle.payload_merge.specs.declared.row.Write.TheVariants.{Put}
 use Rattle.plain_rows.specs.Contents.{row_at, rows_at}
-use Rattle.plain_rows.specs.Readers.{Fails, with_before}
-use Rattle.plain_rows.specs.declared.read_error.ReadError.{ReadError}
-use Rattle.plain_rows.specs.declared.read_error.ReadError.TheVariants.{Memory, Field}
+use Rattle.block_contents.specs.Readers.{Fails}
+use Rattle.plain_rows.specs.Readers.{with_before}
+use Rattle.block_contents.specs.declared.read_error.ReadError.{ReadError}
+use Rattle.block_contents.specs.declared.read_error.ReadError.TheVariants.{Memory, Field}
 
 regrouped : (before : List Write) (row : Row) (read : Reading (List Row))
     → with_before before (read >>= λ x. Ok (row ∷ x.0, x.1)) ≡ with_before (before ++ Put row ∷ []) read

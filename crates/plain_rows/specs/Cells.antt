@@ -1,5 +1,5 @@
 -- The cells of base files. This project's own.
-use Rattle.std.specs.Prelude.{ℕ, ◌^◌, ◌&&◌, nat_le, nat_lt, Bool, true, false, if◌then◌else◌, ℤ, pos, negsuc, List, [], ◌∷◌, length, codes, Option, Some, None, option_and_then, Result, Ok, Err}
+use Rattle.std.specs.Prelude.{ℕ, ◌^◌, ◌&&◌, nat_le, nat_lt, Bool, true, false, if◌then◌else◌, ℤ, pos, negsuc, List, [], ◌∷◌, codes, Option, Some, None, option_and_then, Result, Ok, Err}
 use Rattle.hudi_base.specs.InstantTime.{first_time, last_time}
 use Rattle.hudi_base.specs.declared.column.Column.{Column}
 use Rattle.hudi_base.specs.declared.value.Value.{Value}

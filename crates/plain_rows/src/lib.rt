@@ -9,7 +9,6 @@ mod cells;
 mod codec;
 mod own_rows;
 mod owned;
-mod read_error;
 mod reading;
 mod texts;
 mod writing;

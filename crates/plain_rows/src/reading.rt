@@ -4,10 +4,11 @@ ghost use Rattle.byte_fields.specs.Reading.{Gives};
 ghost use Rattle.payload_merge.specs.RowRefs.{write_in};
 ghost use Rattle.payload_merge.specs.declared.row.Write.TheVariants.{Put};
 ghost use Rattle.plain_rows.specs.Contents.{content_at, place_at, row_at, rows_at, sized_at, told_at};
-ghost use Rattle.plain_rows.specs.Readers.{Reads, puts_if_read, row_of, with_before};
+ghost use Rattle.block_contents.specs.Readers.{Reads};
+ghost use Rattle.plain_rows.specs.Readers.{puts_if_read, row_of, with_before};
 
-use crate::read_error::ReadError;
 use crate::texts::is_sized_text;
+use block_contents::ReadError;
 use byte_fields::{FieldError, i64_at, u32_at, u32_prefixed_at};
 use byteorder::BigEndian;
 use hudi_base::InstantTime;

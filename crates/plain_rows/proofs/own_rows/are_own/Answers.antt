@@ -1,7 +1,6 @@
-use Rattle.std.proofs.Common.{◌<◌, All, List, length, subst, arith}
+use Rattle.std.proofs.Common.{All, subst}
 use Rattle.std.proofs.lemmas.List.{take_all}
 use Rattle.std.proofs.lemmas.List.Elements.{All-more}
-use Rattle.payload_merge.specs.declared.row.Row.{Row}
 use Rattle.plain_rows.specs.OwnRows.{IsOwn}
 use Rattle.plain_rows.proofs.own_rows.are_own.Goals as goal
 

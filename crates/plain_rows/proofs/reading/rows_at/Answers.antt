@@ -8,7 +8,7 @@ use Rattle.payload_merge.specs.declared.row.Write.TheVariants.{Put}
 use Rattle.plain_rows.specs.Contents.{rows_at}
 use Rattle.plain_rows.specs.Readers.{row_of, with_before}
 use Rattle.plain_rows.proofs.ReadParts.{rows_more, rows_stop, rows_end}
-use Rattle.plain_rows.specs.declared.read_error.ReadError.TheVariants.{Field}
+use Rattle.block_contents.specs.declared.read_error.ReadError.TheVariants.{Field}
 use Rattle.plain_rows.proofs.reading.rows_at.Goals as goal
 
 pub returns-in_err-row : goal.returns-in_err-row
