@@ -1,6 +1,7 @@
 #!/bin/sh
-# Tries the codecs beside programs of others: Avro's values beside Debian's python3-avro, in both directions, and Parquet's
-# footers and page headers, those of a whole base file too, beside its python3-thrift, which reads what is written.
+# Tries the codecs beside programs of others: Avro's values beside Debian's python3-avro, in both directions, the records of
+# data blocks, which it decodes, and Parquet's footers and page headers, those of a whole base file too, beside its
+# python3-thrift, which reads what is written.
 #
 # Run: tests/interop.sh
 # It installs the packages where apt-get can, and fails where they aren't there: a codec that was not tried has not passed.
@@ -33,4 +34,5 @@ build codec_tool avro decode
 build thrift_cases
 build base_cases
 $python "$top/tests/interop_avro.py" "$top/crates/codec_tool/out/codec_tool"
+$python "$top/tests/interop_contents.py" "$top/crates/codec_tool/out/codec_tool"
 $python "$top/tests/interop_thrift.py" "$top/crates/thrift_cases/out/thrift_cases" "$top/crates/base_cases/out/base_cases"

@@ -8,6 +8,7 @@
 mod avro;
 mod avro_json;
 mod base;
+mod contents;
 mod json_avro;
 
 use anyhow::{Result, bail};
@@ -34,6 +35,9 @@ fn output_of(alloc: Global, words: &[String], input: &[u8]) -> Result<Bytes> {
         [format, command] if format.as_str() == "base" => {
             base::output_of(alloc, command.as_str(), input)
         }
-        _ => bail!("usage: codec_tool avro copy|decode|encode, or codec_tool base write|read"),
+        [format, command] if format.as_str() == "contents" => {
+            contents::output_of(alloc, command.as_str(), input)
+        }
+        _ => bail!("usage: codec_tool avro copy|decode|encode, base write|read, or contents write"),
     }
 }
