@@ -1,10 +1,7 @@
 // Contents of data blocks and cells of base files, as `PlainRows` has them.
-ghost use Rattle.std.specs.Prelude.{◌≡◌, ◌≤◌, IsTrue, length};
-ghost use Rattle.plain_rows.specs.OwnRows.{IsOwn};
-
 use hudi_base::{Bytes, InstantTime, Name};
 use payload_merge::{Row, RowCodec, RowError, Write, Writes};
-use plain_rows::PlainRows;
+use plain_rows::{PlainRows, are_own};
 use std::alloc::Global;
 use std::fmt::Write as _;
 use std::test::*;
@@ -110,27 +107,25 @@ fn contents_are_read_or_refused_at_an_offset(rt: HostRuntime) -> Result<(), Fail
     Ok(())
 }
 
-// Whether a row can be written.
-fn is_own(row: &Row) -> bool
-    ensures { IsTrue result → IsOwn row.now }
-{
-    let key = row.key.as_slice().len();
-    1 <= key && key <= 1000 && row.body.as_slice().len() <= 65_536
+fn is_same(back: &Row, row: &Row) -> bool {
+    back.key == row.key
+        && back.body == row.body
+        && (back.rank, back.commit, back.seq) == (row.rank, row.commit, row.seq)
 }
 
-// Whether the row comes back from its cells, all but the first of which say something.
-fn comes_back(alloc: Global, codec: &PlainRows, row: &Row) -> Result<bool, RowError> {
+// Whether the rows come back from their cells, all but the first of which say something.
+fn come_back(alloc: Global, codec: &PlainRows, rows: &[Row]) -> Result<bool, RowError> {
     let file = Name::from_text(alloc, "r1")?;
-    if !is_own(row) || file.as_slice().len() > 65_536 {
+    if !are_own(rows) || file.as_slice().len() > 65_536 {
         return Ok(false);
     }
-    let cells = codec.cells(alloc, row, &file)?;
-    let back = codec.row(alloc, &row.partition, &cells)?;
-    Ok(
-        back.key == row.key
-            && back.body == row.body
-            && (back.rank, back.commit, back.seq) == (row.rank, row.commit, row.seq),
-    )
+    for row in rows {
+        let cells = codec.cells(alloc, row, &file)?;
+        if !is_same(&codec.row(alloc, &row.partition, &cells)?, row) {
+            return Ok(false);
+        }
+    }
+    Ok(true)
 }
 
 #[test]
@@ -143,9 +138,9 @@ fn a_row_comes_back_from_its_cells(rt: HostRuntime) -> Result<(), Fail> {
         rank: i64::MIN,
         commit: InstantTime::LAST,
         seq: u32::MAX,
-        body: Bytes::from_slice(alloc, b"\xff")?,
+        body: Bytes::from_slice(alloc, b"\xc3\xa9")?,
     };
-    assert!(rt; comes_back(alloc, &codec, &row)?);
+    assert!(rt; come_back(alloc, &codec, &[row])?);
     assert_eq!(rt; codec.columns().len(), 6);
     Ok(())
 }
