@@ -31,7 +31,7 @@ pub(crate) fn fresh(
 ) -> Result<MemBoard, AllocError>
     ensures { IfOk result (λ board. board.entries ≡ []) }
 {
-    let control = Control::fresh(alloc, Name::from_text(alloc, "t")?);
+    let control = Control::fresh(alloc, Name::from_text(alloc, "t")?, 1);
     let store = MemStore::with_failures(alloc, failing, prefix);
     let clock = MemClock::at(1_704_067_200_000);
     Ok(Board::new(alloc, store, clock, control))

@@ -2,6 +2,7 @@
 ghost use Rattle.std.specs.Prelude.{IfOk, OnOk, IfSome};
 ghost use Rattle.core_tests.specs.StepKinds.{MayFail, ReadsNothing, AreSlots};
 ghost use Rattle.core_tests.specs.Past.{HasPast, HasInstant, HasPin, HasView, HasViewIfAny, IsFirstLength, Leads, Joins, Keeps, Leaves, IsDrawn, IsWriting, IsPlaced, IsOwned};
+ghost use Rattle.key_index.specs.Tiling.{IsBuckets};
 ghost use Rattle.table_core.specs.ControlTables.{IsAsked};
 
 use crate::telling::{NOW, tell};
@@ -11,11 +12,18 @@ use table_core::Control;
 use table_forms::is_partition_path;
 use table_history::{Entry, Job, PartitionSlots, Reader, Reply, Step, View};
 
-pub(crate) fn fresh(alloc: Global) -> Result<Control, AllocError>
+pub(crate) fn fresh_with(alloc: Global, buckets: u16) -> Result<Control, AllocError>
+    requires { IsBuckets buckets }
     ensures { IfOk result HasPast }
 {
     let table = Name::from_text(alloc, "t")?;
-    Ok(Control::fresh(alloc, table))
+    Ok(Control::fresh(alloc, table, buckets))
+}
+
+pub(crate) fn fresh(alloc: Global) -> Result<Control, AllocError>
+    ensures { IfOk result HasPast }
+{
+    fresh_with(alloc, 1)
 }
 
 // A step whose operation succeeds.
@@ -123,7 +131,13 @@ pub(crate) fn enter(
 {
     let slots = one_slot(alloc)?;
     match succeed(alloc, control, job, Step::Enter { t, slots }, out)? {
-        Reply::Entered(_) => Ok(()),
+        Reply::Entered(targets) => {
+            if targets.len() == 1 {
+                Ok(())
+            } else {
+                Err(AllocError)
+            }
+        }
         _ => Err(AllocError),
     }
 }

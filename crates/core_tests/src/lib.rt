@@ -11,3 +11,5 @@ mod marks;
 mod steps;
 #[cfg(test)]
 mod telling;
+#[cfg(test)]
+mod tiles;

@@ -43,7 +43,7 @@ pub(crate) fn fresh(
     failing: Sequence<u64>,
     prefix: u64,
 ) -> Result<MemBoard, AllocError> {
-    let control = Control::fresh(alloc, Name::from_text(alloc, "r1")?);
+    let control = Control::fresh(alloc, Name::from_text(alloc, "r1")?, 1);
     let store = MemStore::with_failures(alloc, failing, prefix);
     let clock = MemClock::at(1_704_067_200_000);
     Ok(Board::new(alloc, store, clock, control))

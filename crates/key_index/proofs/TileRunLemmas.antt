@@ -242,7 +242,7 @@ mistiled-permutation gs hs moved slot wrong = record {
   least = λ lower low. sym (groups_at-permutation gs hs moved lower) ∙ wrong.least lower low;
 }
 
-run-have_slots : (next : ℕ) (gs : List GroupRef) → RunsOn next gs → HaveSlots gs
+pub run-have_slots : (next : ℕ) (gs : List GroupRef) → RunsOn next gs → HaveSlots gs
 run-have_slots next [] run k d h = absurd (omega arith)
 run-have_slots next (g ∷ gs) run zero d h = run-has_slots next g gs run
 run-have_slots next (g ∷ gs) run (suc k) d h = run-have_slots (g.hi + 1) gs (run-rest next g gs run) k d (omega arith)

@@ -1,5 +1,5 @@
 -- How file groups share the slots of a partition. This project's own.
-use Rattle.std.specs.Prelude.{◌≡◌, ◌≢◌, ℕ, ◌+◌, ◌-◌, ◌*◌, ◌/◌, ◌<◌, ◌==◌, ◌&&◌, nat_le, not, Bool, List, [], ◌++◌, length, filter, map}
+use Rattle.std.specs.Prelude.{◌≡◌, ◌≢◌, ℕ, ◌+◌, ◌-◌, ◌*◌, ◌/◌, ◌<◌, ◌≤◌, ◌==◌, ◌&&◌, nat_le, not, Bool, List, [], ◌++◌, length, filter, map}
 use Rattle.std.specs.List.{list_any, range_with_len}
 use Rattle.std.specs.List.Sorted.{IsPermutation, IsNonDecreasingBy}
 use Rattle.std.specs.Str.{bytes_eq}
@@ -35,12 +35,20 @@ pub record Tiling : Type 0 where
 
 -- ---- the first tiling of a partition
 
--- the bucket of that number, of so many in all
+-- A partition may begin with 1 to 1,024 groups.
+abbrev pub IsBuckets : ℕ → Type 0
+IsBuckets buckets = (1 ≤ buckets) × (buckets ≤ 1024)
+
+-- the first slot of the bucket of that number, of so many in all
+abbrev pub first_start : ℕ → ℕ → ℕ
+first_start buckets i = i * slot_count / buckets
+
+-- that bucket
 abbrev pub first_group : List ℕ → ℕ → ℕ → GroupRef
 first_group partition buckets i = record {
   partition = partition;
-  lo = i * slot_count / buckets;
-  hi = (i + 1) * slot_count / buckets - 1;
+  lo = first_start buckets i;
+  hi = first_start buckets (i + 1) - 1;
   born = first_time;
 }
 

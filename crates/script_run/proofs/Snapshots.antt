@@ -1,9 +1,11 @@
 -- The snapshots of a run are folds of the instants that were completed when they began.
-use Rattle.std.proofs.Common.{◌≡◌, ◌<◌, ℕ, true, List, [], ◌∷◌, ◌++◌, map, refl, sym, ap, subst, ◌∙◌, append_assoc, arith, None}
+use Rattle.std.proofs.Common.{◌≡◌, ◌<◌, ℕ, true, List, [], ◌∷◌, ◌++◌, map, codes, refl, sym, ap, subst, ◌∙◌, append_assoc, arith, None}
 use Rattle.std.specs.Prelude.{nat_le}
 use Rattle.std.proofs.lemmas.Bool.Decides.{nat_tests}
 use Rattle.std.specs.List.{AllByRecursion}
+use Rattle.hudi_base.specs.declared.file_group.GroupRef.{GroupRef}
 use Rattle.key_index.specs.Slots.{slot_of}
+use Rattle.key_index.specs.Tiling.{IsBuckets, first_group, first_groups}
 use Rattle.job_script.specs.Rows.{row_of_input}
 use Rattle.job_script.specs.declared.script.InputRow.{InputRow}
 use Rattle.job_script.specs.declared.script.Line.{Line}
@@ -22,7 +24,7 @@ use Rattle.table_history.specs.Histories.{History}
 use Rattle.table_history.specs.JobLaw.{IsLegal}
 use Rattle.table_history.specs.declared.entry.Entry.{Entry}
 use Rattle.table_history.specs.declared.job.Job.{Job}
-use Rattle.table_history.specs.Targets.{one_group}
+use Rattle.table_history.specs.Targets.{is_live}
 use Rattle.upsert_writer.specs.BatchRows.{is_in_group}
 use Rattle.upsert_writer.specs.Blocks.{BlockForm}
 use Rattle.script_run.specs.Batches.{any_batch}
@@ -101,28 +103,40 @@ in_range : (key : List ℕ) → slot_of key < 65_536
 unfolding slot_of
 in_range key = omega arith
 
-in_one_group : (row : InputRow) → is_in_group one_group (row_of_input row) ≡ true
-in_one_group row =
+-- a partition may begin with one group
+pub one_bucket : IsBuckets 1
+one_bucket = (omega arith, omega arith)
+
+-- the one group of the partition of all rows
+abbrev whole_group : GroupRef
+whole_group = first_group (codes "x") 1 0
+
+whole_group_lives : (form : BlockForm) → is_live (table_of_form form) whole_group ≡ true
+unfolding first_groups
+whole_group_lives form = refl
+
+in_whole_group : (row : InputRow) → is_in_group whole_group (row_of_input row) ≡ true
+in_whole_group row =
     let within = in_range row.key in
     let from : nat_le 0 (slot_of row.key) ≡ true = grind (arith, nat_tests) in
     let to : nat_le (slot_of row.key) 65_535 ≡ true = grind (arith, nat_tests) in
     rw (from, to) refl
 
-all_in_one_group : (rows : List InputRow) → AllByRecursion (λ row. is_in_group one_group row ≡ true) (map row_of_input rows)
-all_in_one_group [] = tt
-all_in_one_group (row ∷ rows) = (in_one_group row, all_in_one_group rows)
+all_in_whole_group : (rows : List InputRow) → AllByRecursion (λ row. is_in_group whole_group row ≡ true) (map row_of_input rows)
+all_in_whole_group [] = tt
+all_in_whole_group (row ∷ rows) = (in_whole_group row, all_in_whole_group rows)
 
 comes_to : (form : BlockForm) (line : Line) (job : Job) (before after : History) (mine : List Entry) (reply : JobReply) → IsMadeBy job before after mine → AnswersLine form line mine reply → Turned form before
     → IsWhole form after → ComesTo form line before after reply
 comes_to form (Upsert rows) job before after mine (Committed t) made answers turned whole = record {
-  completed = (batch_written any_batch form (map row_of_input rows) before after job mine t made whole.legal answers.wrote answers.answers).completed;
-  wrote = whole_batch any_batch form (map row_of_input rows) before after job mine t one_group made whole.legal answers.wrote answers.answers refl (all_in_one_group rows);
+  completed = (batch_written any_batch form 1 (map row_of_input rows) before after job mine t made whole.legal answers.wrote answers.answers).completed;
+  wrote = whole_batch any_batch form 1 (map row_of_input rows) before after job mine t whole_group one_bucket made whole.legal answers.wrote answers.answers (whole_group_lives form) (all_in_whole_group rows);
 }
 comes_to form (Upsert rows) job before after mine reply made answers turned whole = tt
 comes_to form Snapshot job before after mine reply made answers turned whole =
     let entries : AllByRecursion IsUndamaged mine = first_of IsUndamaged mine before (subst (AllByRecursion IsUndamaged) made.are whole.undamaged) in
     let named : AllNamesFit (table_of_form form) before = named_before (table_of_form form) before mine (subst (AllNamesFit (table_of_form form)) made.are whole.named) in
-    snapshot_is_fold any_batch form before after job mine None reply made whole.legal named turned.turn turned.carries entries answers
+    snapshot_is_fold any_batch form 1 before after job mine None reply one_bucket made whole.legal named turned.turn turned.carries entries answers
 
 -- where the whole history stands for what was done, so does each snapshot
 pub with_snapshots : (form : BlockForm) (Stood : Type 0) (jobs : List ScriptJob) (replies : List JobReply) (before after H : History) → RanJobs form ⊥ jobs replies before after → Turned form before

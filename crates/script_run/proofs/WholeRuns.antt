@@ -1,11 +1,12 @@
 -- From the journal of a board to what is said of a run.
-use Rattle.std.proofs.Common.{◌≡◌, ℕ, ◌≤◌, ℤ, List, [], ◌∷◌, ◌++◌, length, Option, Some, None, IfSome, ap, subst, inl, inr, arith}
+use Rattle.std.proofs.Common.{◌≡◌, ℕ, ◌≤◌, ℤ, List, [], ◌∷◌, ◌++◌, length, Option, Some, None, IfSome, ap, sym, ◌∙◌, subst, inl, inr, arith}
 use Rattle.std.specs.List.{AllByRecursion}
 use Rattle.hudi_base.specs.Clock.{ClockState}
 use Rattle.hudi_base.specs.Files.{FileMap, IsReplay, Told}
 use Rattle.hudi_base.specs.Store.{StoreState}
 use Rattle.hudi_base.specs.declared.operation.Operation.{Operation}
 use Rattle.job_script.specs.declared.script.ScriptJob.{ScriptJob}
+use Rattle.key_index.specs.Tiling.{IsBuckets}
 use Rattle.table_answers.specs.NamedRuns.{AllNamesFit}
 use Rattle.table_answers.proofs.Beginnings.{run_names}
 use Rattle.table_board.specs.Boards.{DrawnTimes, FaultsCounted, Origin, table_of}
@@ -20,7 +21,7 @@ use Rattle.upsert_writer.specs.Blocks.{BlockForm}
 use Rattle.script_run.specs.Batches.{any_batch}
 use Rattle.script_run.specs.Runs.{IsHonestFresh, IsRunOf, RanJobs, WasHonestFresh, table_of_form}
 use Rattle.script_run.proofs.FromBoard.{stood}
-use Rattle.script_run.proofs.Snapshots.{IsWhole, answers_undamaged, from_itself, turned_first, with_snapshots}
+use Rattle.script_run.proofs.Snapshots.{IsWhole, one_bucket, answers_undamaged, from_itself, turned_first, with_snapshots}
 
 -- what a board says of its entries
 pub record Journal (origin : Origin) (H : History) (honest : Type 0) (state : StoreState) (most : ℤ) : Type 0 where
@@ -34,6 +35,7 @@ pub record Journal (origin : Origin) (H : History) (honest : Type 0) (state : St
 -- a board that was just made over this store
 pub record IsMadeOver (origin : Origin) (form : BlockForm) (old : StoreState) : Type 0 where
   pub name : origin.name ≡ form.table
+  pub buckets : origin.buckets ≡ 1
   pub faults : origin.faults ≡ old.faults
   pub done : IfSome old.told.operations (λ operations. origin.done ≡ length operations)
   pub replay : IsReplay old.told
@@ -45,9 +47,10 @@ if_some P (Some y) x is h = let same : y ≡ x = cc in subst P same h
 pub run_of : (form : BlockForm) (origin : Origin) (was is : Type 0) (old new : StoreState) (before after : ClockState) (jobs : List ScriptJob) (replies : List JobReply) (H : History)
     → IsMadeOver origin form old → IsLater origin origin was is old new before after → Journal origin H is new after.most → RanJobs form ⊥ jobs replies [] H → IsRunOf form jobs H replies was old new after
 run_of form origin was is old new before after jobs replies H made later journal ran =
-    let table_is : table_of origin ≡ table_of_form form = ap fresh made.name in
+    let table_is : table_of origin ≡ table_of_form form = ap (λ (name : List ℕ). fresh name origin.buckets) made.name ∙ ap (fresh form.table) made.buckets in
+    let fit : IsBuckets origin.buckets = subst IsBuckets (sym made.buckets) one_bucket in
     let stood_then = λ (start : FileMap) (first now : List Operation) (f : IsHonestFresh was old.told start first) (tells : new.told.operations ≡ Some now).
-    stood origin was is old.told new.told start first now f made.replay later.told later.honest.0 (if_some (λ (operations : List Operation). origin.done ≡ length operations) old.told.operations first f.operations made.done) tells in
+    stood origin was is old.told new.told start first now fit f made.replay later.told later.honest.0 (if_some (λ (operations : List Operation). origin.done ≡ length operations) old.told.operations first f.operations made.done) tells in
     let now_of = λ (start : FileMap) (first : List Operation) (f : IsHonestFresh was old.told start first). later.told.operations f.honest first f.operations in
     let stood_of = λ (start : FileMap) (first : List Operation) (f : IsHonestFresh was old.told start first).
     let more = now_of start first f in

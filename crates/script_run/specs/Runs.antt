@@ -37,9 +37,9 @@ use Rattle.script_run.specs.Lines.{AnswersLine}
 abbrev pub job_of : ℕ → Job
 job_of line = record { lane = 1; line = line }
 
--- the table of a form as a run begins: it has no instants
+-- the table of a form as a run begins: it has no instants, and each of its partitions one group
 abbrev pub table_of_form : BlockForm → Table
-table_of_form form = fresh form.table
+table_of_form form = fresh form.table 1
 
 -- the instant is completed, and its writes are these rows, all of them in their order
 pub record IsCommitted (form : BlockForm) (H : History) (t : ℕ) (rows : List Row) : Type 0 where

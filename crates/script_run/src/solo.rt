@@ -187,7 +187,7 @@ fn run_fresh<K: TableCodec, S: Store, C: Clock>(
             clock,
         };
     };
-    let mut solo = Solo::new(Board::new(alloc, store, clock, Control::fresh(alloc, name)));
+    let mut solo = Solo::new(Board::new(alloc, store, clock, Control::fresh(alloc, name, 1)));
     let mut text = Vec::new(alloc);
     let ran = run_jobs(alloc, codec, jobs, &mut solo, &mut text);
     let board = solo.into_board();

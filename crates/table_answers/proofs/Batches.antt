@@ -1,20 +1,32 @@
 -- What a committed writer's instant wrote: the puts of its batch.
-use Rattle.std.proofs.Common.{◌≡◌, inl, inr, ◌+◌, ℕ, zero, suc, Bool, true, false, cond, ◌||◌, List, [], ◌∷◌, ◌++◌, map, length, Some, slice_get, refl, sym, ap, subst, ◌∙◌, arith}
+use Rattle.std.proofs.Common.{◌≡◌, ◌+◌, ℕ, zero, suc, Bool, true, false, cond, ◌||◌, ◌&&◌, List, [], ◌∷◌, ◌++◌, append-nil, map, take, length, Option, Some, None, slice_get, refl, sym, ap, subst, ◌∙◌, arith}
 use Rattle.std.specs.Prelude.{◌==◌, IsSomeAnd, nat_lt}
-use Rattle.std.specs.List.{AllByRecursion, list_any}
-use Rattle.std.proofs.lemmas.Bool.Decides.{nat_tests}
+use Rattle.std.specs.List.{AllByRecursion, flat_map, list_any}
+use Rattle.std.specs.List.Sorted.{IsStrictlySortedBy}
+use Rattle.std.specs.Ordering.{is_eq}
+use Rattle.std.specs.Str.{bytes_eq}
+use Rattle.std.specs.declared.cmp.Ordering.TheVariants.{Less}
+use Rattle.std.proofs.lemmas.Grind.{flat_map-append}
+use Rattle.std.proofs.lemmas.List.{take_all}
+use Rattle.std.proofs.lemmas.Map.Keys.{sorted_head}
 use Rattle.hudi_base.specs.declared.file_group.GroupRef.{GroupRef}
 use Rattle.hudi_base.specs.declared.file_group.Target.{Target}
+use Rattle.file_names.specs.declared.file_name.State.TheVariants as state
+use Rattle.key_index.specs.Tiling.{IsBuckets, has_slot, is_among, is_same_group}
+use Rattle.key_index.proofs.FirstTiles.{same-is, same-itself}
+use Rattle.payload_merge.specs.Payload.{key_of_row}
 use Rattle.payload_merge.specs.declared.row.Row.{Row}
 use Rattle.payload_merge.specs.declared.row.Write.{Write}
 use Rattle.payload_merge.specs.declared.row.Write.TheVariants.{Put}
+use Rattle.table_core.specs.KeyLaws.{same_group}
 use Rattle.table_core.specs.declared.job_reply.JobReply.TheVariants as job_reply
 use Rattle.table_history.specs.Answers.{Answers, May, is_completed}
 use Rattle.table_history.specs.Histories.{History, own}
 use Rattle.table_history.specs.Instants.{begun, completed_instants, completions, instant_of}
 use Rattle.table_history.specs.JobLaw.{Work, IsLegal, Phase, Fresh, Drawn, Writes, Committed, Owes, Allows, next_phase, phase}
-use Rattle.table_history.specs.Tables.{Table, fresh}
-use Rattle.table_history.specs.Targets.{one_group, targets_of_slots}
+use Rattle.table_history.specs.Concerns.{HasPlaced, Stands}
+use Rattle.table_history.specs.Tables.{Instant, Table, fresh}
+use Rattle.table_history.specs.Targets.{AreTargets, group_cmp, is_asked, is_live, target_of_group}
 use Rattle.table_history.specs.Times.{insert_time}
 use Rattle.table_history.specs.declared.entry.Entry.{Entry}
 use Rattle.table_history.specs.declared.job.Job.{Job}
@@ -24,111 +36,126 @@ use Rattle.table_history.specs.declared.step.PartitionSlots.{PartitionSlots}
 use Rattle.table_history.specs.declared.step.Step.{Step}
 use Rattle.table_history.specs.declared.step.Step.TheVariants.{Begin, Enter, Append, Finish, Pin, Unpin, Read, Abandon}
 use Rattle.table_history.proofs.Bounds.{same_number}
-use Rattle.table_images.specs.Numbers.{IsLive}
+use Rattle.table_history.proofs.OwnEntries.{linked}
+use Rattle.table_images.proofs.WhereTo.{itself_group}
 use Rattle.table_images.proofs.SameLogs.{IsNoAppend, entry}
 use Rattle.table_jobs.specs.Replies.{EndsAs, IsWriterReply}
 use Rattle.upsert_writer.specs.BatchRows.{is_in_group, rows_from, rows_to}
 use Rattle.upsert_writer.specs.Blocks.{BlockForm, IsBlockOf}
-use Rattle.upsert_writer.specs.Slots.{AreSlotsOf, row_slot}
+use Rattle.upsert_writer.specs.Slots.{AreSlotsOf, each_slot, row_slot}
 use Rattle.upsert_writer.specs.WriterSteps.{IsWriterStep, WritesBatch, targets_given}
 use Rattle.upsert_writer.proofs.WholeBatches.{all_go_there}
 use Rattle.table_answers.specs.InTurn.{IsMadeBy}
-use Rattle.table_answers.specs.InstantWrites.{block_writes, instant_writes, writes_of}
+use Rattle.table_answers.specs.InstantWrites.{WritesGroups, block_writes, instant_writes, writes_of}
 use Rattle.table_answers.proofs.Closed.{or_true}
 use Rattle.table_answers.proofs.Made.{AllBy, own_made}
-use Rattle.table_answers.proofs.OneSlice.{ArePlain, IsOnly, appending, instants_plain, of_slots, only}
+use Rattle.table_answers.proofs.GroupFolds.{one_live}
+use Rattle.table_answers.proofs.LiveSlices.{ArePlain, appending, instants_plain}
 use Rattle.table_answers.proofs.RowBlocks.{block_of_rows}
 use Rattle.table_answers.proofs.Writes.{fresh_opened, one_block_more, same_writes}
 
--- ---- slots
+-- ---- lists
 
-no_rows : (rows : List Row) → [] ≡ map row_slot rows → rows ≡ []
-no_rows [] none = refl
-no_rows (row ∷ rows) none = let wrong : 0 ≡ length (map row_slot (row ∷ rows)) = ap length none in absurd (omega (arith, wrong))
+take_none : {X : Type 0} (xs : List X) → take 0 xs ≡ []
+take_none [] = refl
+take_none (x ∷ xs) = refl
 
--- a writer without targets has no rows
-none_asked : (rows : List Row) (slots : List PartitionSlots) → AreSlotsOf rows slots → targets_of_slots slots ≡ [] → rows ≡ []
-none_asked rows [] asked none = no_rows rows asked
-none_asked rows (slot ∷ slots) asked none = let wrong : 1 ≡ 0 = ap length none in absurd (omega (arith, wrong))
+take_one_more : {X : Type 0} (xs : List X) (n : ℕ) (x : X) → slice_get xs n ≡ Some x → take (n + 1) xs ≡ take n xs ++ x ∷ []
+take_one_more xs n x is = ap (λ m. take m xs) (next n) ∙ by xs n is
+  where
+    next : (n : ℕ) → n + 1 ≡ suc n
+    next n = omega arith
+
+    none_some : None ≡ Some x → ⊥
+    none_some e = cc
+
+    by : (xs : List _) (n : ℕ) → slice_get xs n ≡ Some x → take (suc n) xs ≡ take n xs ++ x ∷ []
+    by [] n is = absurd (none_some is)
+    by (y ∷ xs) zero is = let there : Some y ≡ Some x = is in let same : y ≡ x = cc in ap (λ zs. y ∷ zs) (take_none xs) ∙ ap (λ z. z ∷ []) same
+    by (y ∷ xs) (suc n) is = ap (λ zs. y ∷ zs) (by xs n is)
 
 -- ---- how far a writer is
 
-module _ (form : BlockForm) (rows : List Row) where
+module _ (form : BlockForm) (buckets : ℕ) (rows : List Row) where
   abbrev A : Table
-  A = fresh form.table
+  A = fresh form.table buckets
 
-  abbrev all_puts : ℕ → List Write
-  all_puts t = map Put (rows_to t one_group rows)
+  abbrev puts_to : ℕ → List Target → List Write
+  puts_to t targets = flat_map (λ s. map Put (rows_to t s.group rows)) targets
 
-  pub record IsWriting (H : History) (es : List Entry) (t : ℕ) (targets : List Target) (placed : ℕ) : Type 0 where
+  pub record IsWriting (H : History) (es : List Entry) (t : ℕ) (targets : List Target) (blocks : ℕ) : Type 0 where
     pub given : targets_given es ≡ targets
-    pub are : IsOnly targets
-    pub some : targets ≡ [] → rows ≡ []
-    pub wrote : writes_of form (fresh form.table) H t ≡ cond (placed == 0) [] (map Put (rows_to t one_group rows))
+    pub slots : List PartitionSlots
+    pub asked : AreSlotsOf rows slots
+    pub are : AreTargets (fresh form.table buckets) slots targets
+    pub wrote : writes_of form (fresh form.table buckets) H t ≡ puts_to t (take blocks targets)
 
   -- completed, with these writes
   pub record IsWritten (H : History) (t : ℕ) : Type 0 where
-    pub wrote : writes_of form (fresh form.table) H t ≡ map Put (rows_to t one_group rows)
-    pub completed : is_completed (fresh form.table) H t ≡ true
+    pub wrote : WritesGroups rows t (fresh form.table buckets) (writes_of form (fresh form.table buckets) H t)
+    pub completed : is_completed (fresh form.table buckets) H t ≡ true
 
   abbrev Wrote : History → List Entry → Phase → Type 0
   Wrote H es (Drawn t) = writes_of form A H t ≡ []
-  Wrote H es (Writes t targets placed) = IsWriting H es t targets placed
+  Wrote H es (Writes t targets blocks) = IsWriting H es t targets blocks
   Wrote H es (Committed t) = IsWritten H t
   Wrote H es _ = Unit {0}
 
   -- ---- one entry
 
-  module _ (H : History) (es : List Entry) (j : Job) (plain : (t : ℕ) → ArePlain (instant_of A H t)) where
+  module _ (H : History) (es : List Entry) (j : Job) (plain : (t : ℕ) → ArePlain A (instant_of A H t)) where
     abbrev same_as : (s : Step) (r : Reply) → IsNoAppend s → May A H j s → Answers A H s r → (t : ℕ) → writes_of form A (entry j s r ∷ H) t ≡ writes_of form A H t
-    same_as s r other may answers t = same_writes form A H (fresh_opened form.table) j t (completions A H) plain s r other may answers
+    same_as s r other may answers t = same_writes form A H (fresh_opened form.table buckets) j t (completions A H) plain s r other may answers
 
     drawn_none : (t : ℕ) → writes_of form A (entry j Begin (reply.Began t) ∷ H) t ≡ []
     drawn_none t = ap (λ b. instant_writes form (cond b (Some (begun j (completions A H))) (instant_of A H t))) (same_number t t refl)
 
-    entered_then : (u t : ℕ) (slots : List PartitionSlots) (targets : List Target) → u ≡ t → AreSlotsOf rows slots → May A H j (Enter u slots) → targets ≡ targets_of_slots slots
+    entered_then : (u t : ℕ) (slots : List PartitionSlots) (targets : List Target) → u ≡ t → AreSlotsOf rows slots → May A H j (Enter u slots) → AreTargets A slots targets
         → writes_of form A H t ≡ [] → IsWriting (entry j (Enter u slots) (reply.Entered targets) ∷ H) (entry j (Enter u slots) (reply.Entered targets) ∷ es) t targets 0
     entered_then u t slots targets same asked may are none = record {
       given = refl;
-      are = subst IsOnly (sym are) (of_slots slots);
-      some = λ empty. none_asked rows slots asked (sym are ∙ empty);
-      wrote = same_as (Enter u slots) (reply.Entered targets) tt may are t ∙ none;
+      slots = slots;
+      asked = asked;
+      are = are;
+      wrote = same_as (Enter u slots) (reply.Entered targets) tt may are t ∙ none ∙ sym (ap (puts_to t) (take_none targets));
     }
 
-    -- the one target, and it has no block yet
-    first_block : (targets : List Target) (number_of : ℕ) (P : Target → Type 0) → IsOnly targets → IsSomeAnd (slice_get targets number_of) P → (number_of ≡ 0) × P only
-    first_block targets number_of P (inl none) has = absurd (subst (λ ts. IsSomeAnd (slice_get ts number_of) P) none has)
-    first_block targets number_of P (inr one) has = by number_of (subst (λ ts. IsSomeAnd (slice_get ts number_of) P) one has)
-      where
-        by : (n : ℕ) → IsSomeAnd (slice_get (only ∷ []) n) P → (n ≡ 0) × P only
-        by zero has = (refl, has)
-        by (suc n) has = absurd has
+    some_is : (o : Option Target) (s : Target) (P : Target → Type 0) → o ≡ Some s → IsSomeAnd o P → P s
+    some_is o s P is has = let here : IsSomeAnd (Some s) P = subst (λ (o : Option Target). IsSomeAnd o P) is has in here
 
-    one_more : (placed : ℕ) → (placed + 1 == 0) ≡ false
-    one_more placed = grind (arith, nat_tests)
+    targets_are : (t : ℕ) (targets : List Target) (blocks : ℕ) (i : Instant) (o : Option Instant) → o ≡ Some i
+        → IsSomeAnd o (λ i. (i.owner ≡ Some j) × ((i.state ≡ state.Inflight) × (i.targets ≡ targets) × HasPlaced blocks i)) → i.targets ≡ targets
+    targets_are t targets blocks i o is stands =
+        let here : IsSomeAnd (Some i) (λ i. (i.owner ≡ Some j) × ((i.state ≡ state.Inflight) × (i.targets ≡ targets) × HasPlaced blocks i)) =
+        subst (λ (o : Option Instant). IsSomeAnd o (λ i. (i.owner ≡ Some j) × ((i.state ≡ state.Inflight) × (i.targets ≡ targets) × HasPlaced blocks i))) is stands in
+        here.1.1
 
-    placed_then : (u t : ℕ) (targets : List Target) (placed target writes version at : ℕ) (bytes : List ℕ) → u ≡ t → target ≡ placed
-        → May A H j (Append u target writes bytes) → IsSomeAnd (slice_get (targets_given es) target) (λ s. IsBlockOf form rows u s writes bytes) → IsWriting H es t targets placed
-        → IsWriting (entry j (Append u target writes bytes) (reply.Placed version at) ∷ H) (entry j (Append u target writes bytes) (reply.Placed version at) ∷ es) t targets (placed + 1)
-    placed_then u t targets placed target writes version at bytes same next may has was =
-        let one = first_block targets target (λ s. IsBlockOf form rows u s writes bytes) was.are (subst (λ ts. IsSomeAnd (slice_get ts target) (λ s. IsBlockOf form rows u s writes bytes)) was.given has) in
-        let none : writes_of form A H t ≡ [] = was.wrote ∙ ap (λ n. cond (n == 0) [] (map Put (rows_to t one_group rows))) (sym next ∙ one.0) in
-        let block : block_writes form (Some only) bytes ≡ map Put (rows_to t one_group rows) = block_of_rows form u writes bytes (rows_to u one_group rows) one.1 ∙ ap (λ n. map Put (rows_to n one_group rows)) same in
+    placed_then : (u t : ℕ) (targets : List Target) (blocks target writes version at : ℕ) (bytes : List ℕ) → u ≡ t → target ≡ blocks → Stands A H j (Writes t targets blocks)
+        → May A H j (Append u target writes bytes) → IsSomeAnd (slice_get (targets_given es) target) (λ s. IsBlockOf form rows u s writes bytes) → IsWriting H es t targets blocks
+        → IsWriting (entry j (Append u target writes bytes) (reply.Placed version at) ∷ H) (entry j (Append u target writes bytes) (reply.Placed version at) ∷ es) t targets (blocks + 1)
+    placed_then u t targets blocks target writes version at bytes same next stands may has was =
+        let to = appending A H j u target (plain u) may in
+        let s : Target = to.0 in
+        let is_targets : to.1.i.targets ≡ targets = targets_are t targets blocks to.1.i (instant_of A H t) (ap (instant_of A H) (sym same) ∙ to.1.is) stands in
+        let there : slice_get targets target ≡ Some s = ap (λ ts. slice_get ts target) (sym is_targets) ∙ to.1.to in
+        let one = some_is (slice_get (targets_given es) target) s (λ s. IsBlockOf form rows u s writes bytes) (ap (λ ts. slice_get ts target) was.given ∙ there) has in
+        let block : block_writes form (Some s) bytes ≡ map Put (rows_to t s.group rows) = block_of_rows form s u writes bytes (rows_to u s.group rows) one ∙ ap (λ n. map Put (rows_to n s.group rows)) same in
         record {
           given = was.given;
+          slots = was.slots;
+          asked = was.asked;
           are = was.are;
-          some = was.some;
-          wrote = one_block_more form A H j u target writes version at bytes (appending A H j u target (plain u) may) t
-              ∙ ap (λ ws. ws ++ cond (u == t) (block_writes form (Some only) bytes) []) none ∙ ap (λ b. cond b (block_writes form (Some only) bytes) []) (same_number u t same)
-              ∙ block ∙ sym (ap (λ b. cond b [] (map Put (rows_to t one_group rows))) (one_more placed));
+          wrote = one_block_more form A H j u target writes version at bytes s to.1 t
+              ∙ ap (λ ws. ws ++ cond (u == t) (block_writes form (Some s) bytes) []) was.wrote
+              ∙ ap (λ b. puts_to t (take blocks targets) ++ cond b (block_writes form (Some s) bytes) []) (same_number u t same)
+              ∙ ap (λ ws. puts_to t (take blocks targets) ++ ws) (block ∙ sym (append-nil (map Put (rows_to t s.group rows))))
+              ∙ sym (flat_map-append (λ (s : Target). map Put (rows_to t s.group rows)) (take blocks targets) (s ∷ []))
+              ∙ sym (ap (puts_to t) (take_one_more targets blocks s (ap (slice_get targets) (sym next) ∙ there)));
         }
 
-    all_placed : (t : ℕ) (targets : List Target) (placed : ℕ) → IsOnly targets → placed ≡ length targets → (targets ≡ [] → rows ≡ [])
-        → cond (placed == 0) [] (map Put (rows_to t one_group rows)) ≡ map Put (rows_to t one_group rows)
-    all_placed t targets placed (inl none) count some =
-        let empty : map Put (rows_to t one_group rows) ≡ [] = ap (λ rs. map Put (rows_to t one_group rs)) (some none) in
-        ap (λ n. cond (n == 0) [] (map Put (rows_to t one_group rows))) (count ∙ ap length none) ∙ sym empty
-    all_placed t targets placed (inr one) count some = ap (λ n. cond (n == 0) [] (map Put (rows_to t one_group rows))) (count ∙ ap length one)
+    of_groups : (t : ℕ) (gs : List GroupRef) → puts_to t (map target_of_group gs) ≡ flat_map (λ group. map Put (rows_to t group rows)) gs
+    of_groups t [] = refl
+    of_groups t (g ∷ gs) = ap (λ ws. map Put (rows_to t g rows) ++ ws) (of_groups t gs)
 
     among_inserted : (v : ℕ) (us : List ℕ) → list_any (λ w. w == v) (insert_time v us) ≡ true
     among_inserted v [] = ap (λ b. b || false) (same_number v v refl)
@@ -138,66 +165,179 @@ module _ (form : BlockForm) (rows : List Row) where
         by true rest = ap (λ c. c || list_any (λ w. w == v) (u ∷ us)) (same_number v v refl)
         by false rest = or_true (u == v) (list_any (λ w. w == v) (insert_time v us)) rest
 
-    finished_then : (u t v : ℕ) (checkpoint : _) (targets : List Target) (placed : ℕ) → v ≡ u → u ≡ t → placed ≡ length targets → May A H j (Finish u checkpoint) → IsWriting H es t targets placed
+    finished_then : (u t v : ℕ) (checkpoint : _) (targets : List Target) (blocks : ℕ) → v ≡ u → u ≡ t → blocks ≡ length targets → May A H j (Finish u checkpoint) → IsWriting H es t targets blocks
         → IsWritten (entry j (Finish u checkpoint) (reply.Completed v) ∷ H) v
-    finished_then u t v checkpoint targets placed answers same count may was = record {
-      wrote = same_as (Finish u checkpoint) (reply.Completed v) tt may answers v ∙ ap (writes_of form A H) (answers ∙ same) ∙ was.wrote ∙ all_placed t targets placed was.are count was.some
-          ∙ ap (λ n. map Put (rows_to n one_group rows)) (sym (answers ∙ same));
+    finished_then u t v checkpoint targets blocks answers same count may was = record {
+      wrote = record {
+        slots = was.slots;
+        asked = was.asked;
+        groups = was.are.groups;
+        live = was.are.live;
+        are = same_as (Finish u checkpoint) (reply.Completed v) tt may answers v ∙ ap (writes_of form A H) (answers ∙ same) ∙ was.wrote
+            ∙ ap (puts_to t) (take_all blocks targets (let all = count in omega (arith, all)) ∙ was.are.are) ∙ of_groups t was.are.groups
+            ∙ ap (λ n. flat_map (λ group. map Put (rows_to n group rows)) was.are.groups) (sym (answers ∙ same));
+      };
       completed = among_inserted v (completed_instants A H);
     }
 
-    wrote_then : (work : Work) (s : Step) (r : Reply) (p : Phase) → IsWriterStep form rows (targets_given es) s → May A H j s → Answers A H s r → Allows work j p s → Wrote H es p
+    wrote_then : (work : Work) (s : Step) (r : Reply) (p : Phase) → IsWriterStep form rows (targets_given es) s → May A H j s → Answers A H s r → Allows work j p s → Stands A H j p → Wrote H es p
         → Wrote (entry j s r ∷ H) (entry j s r ∷ es) (next_phase p s r)
-    wrote_then work (Pin asked bases_only) r p takes may answers allowed was = absurd takes
-    wrote_then work (Unpin pin) r p takes may answers allowed was = absurd takes
-    wrote_then work (Read from number_of offset len) r p takes may answers allowed was = absurd takes
-    wrote_then work Begin (reply.Began t) Fresh takes may answers allowed was = drawn_none t
-    wrote_then work Begin _ Fresh takes may answers allowed was = tt
-    wrote_then work (Enter u slots) (reply.Entered targets) (Drawn t) takes may answers allowed was = entered_then u t slots targets allowed.0 takes may answers was
-    wrote_then work (Enter u slots) _ (Drawn t) takes may answers allowed was = tt
-    wrote_then work (Abandon u) r (Drawn t) takes may answers allowed was = tt
-    wrote_then work (Append u target writes bytes) (reply.Placed version at) (Writes t targets placed) takes may answers allowed was =
-        placed_then u t targets placed target writes version at bytes allowed.0 allowed.1 may takes was
-    wrote_then work (Append u target writes bytes) _ (Writes t targets placed) takes may answers allowed was = tt
-    wrote_then work (Finish u checkpoint) (reply.Completed v) (Writes t targets placed) takes may answers allowed was =
-        finished_then u t v checkpoint targets placed answers allowed.0 allowed.1 may was
-    wrote_then work (Finish u checkpoint) _ (Writes t targets placed) takes may answers allowed was = tt
-    wrote_then work (Abandon u) r (Writes t targets placed) takes may answers allowed was = tt
-    wrote_then work (Abandon u) r (Owes t) takes may answers allowed was = tt
-    wrote_then work s r p takes may answers allowed was = absurd allowed
+    wrote_then work (Pin asked bases_only) r p takes may answers allowed stands was = absurd takes
+    wrote_then work (Unpin pin) r p takes may answers allowed stands was = absurd takes
+    wrote_then work (Read from number_of offset len) r p takes may answers allowed stands was = absurd takes
+    wrote_then work Begin (reply.Began t) Fresh takes may answers allowed stands was = drawn_none t
+    wrote_then work Begin _ Fresh takes may answers allowed stands was = tt
+    wrote_then work (Enter u slots) (reply.Entered targets) (Drawn t) takes may answers allowed stands was = entered_then u t slots targets allowed.0 takes may answers was
+    wrote_then work (Enter u slots) _ (Drawn t) takes may answers allowed stands was = tt
+    wrote_then work (Abandon u) r (Drawn t) takes may answers allowed stands was = tt
+    wrote_then work (Append u target writes bytes) (reply.Placed version at) (Writes t targets blocks) takes may answers allowed stands was =
+        placed_then u t targets blocks target writes version at bytes allowed.0 allowed.1 stands may takes was
+    wrote_then work (Append u target writes bytes) _ (Writes t targets blocks) takes may answers allowed stands was = tt
+    wrote_then work (Finish u checkpoint) (reply.Completed v) (Writes t targets blocks) takes may answers allowed stands was =
+        finished_then u t v checkpoint targets blocks answers allowed.0 allowed.1 may was
+    wrote_then work (Finish u checkpoint) _ (Writes t targets blocks) takes may answers allowed stands was = tt
+    wrote_then work (Abandon u) r (Writes t targets blocks) takes may answers allowed stands was = tt
+    wrote_then work (Abandon u) r (Owes t) takes may answers allowed stands was = tt
+    wrote_then work s r p takes may answers allowed stands was = absurd allowed
 
 -- ---- a writer's entries
 
-pub writer_wrote : (work : Work) (form : BlockForm) (rows : List Row) (before : History) (job : Job) (es : List Entry) → own job before ≡ [] → AllBy job es → WritesBatch form rows es
-    → IsLegal work (fresh form.table) (es ++ before) → Wrote form rows (es ++ before) es (phase es)
-writer_wrote work form rows before job [] first all wrote legal = tt
-writer_wrote work form rows before job (e ∷ es) first all wrote legal =
+pub writer_wrote : (work : Work) (form : BlockForm) (buckets : ℕ) (rows : List Row) (before : History) (job : Job) (es : List Entry) → own job before ≡ [] → AllBy job es → WritesBatch form rows es
+    → IsLegal work (fresh form.table buckets) (es ++ before) → Wrote form buckets rows (es ++ before) es (phase es)
+writer_wrote work form buckets rows before job [] first all wrote legal = tt
+writer_wrote work form buckets rows before job (e ∷ es) first all wrote legal =
     let mine : own e.job (es ++ before) ≡ es = ap (λ j. own j (es ++ before)) all.0 ∙ own_made job before es all.1 first in
-    wrote_then form rows (es ++ before) es e.job (instants_plain work form.table (es ++ before) legal.0) work e.step e.reply (phase es) wrote.0 legal.1.may legal.1.answers
-    (subst (λ xs. Allows work e.job (phase xs) e.step) mine legal.2) (writer_wrote work form rows before job es first all.1 wrote.1 legal.0)
+    wrote_then form buckets rows (es ++ before) es e.job (instants_plain work form.table buckets (es ++ before) legal.0) work e.step e.reply (phase es) wrote.0 legal.1.may legal.1.answers
+    (subst (λ xs. Allows work e.job (phase xs) e.step) mine legal.2)
+    (subst (λ xs. Stands (fresh form.table buckets) (es ++ before) e.job (phase xs)) mine (linked work (fresh form.table buckets) (es ++ before) (fresh_opened form.table buckets) legal.0 e.job))
+    (writer_wrote work form buckets rows before job es first all.1 wrote.1 legal.0)
 
-committed_end : (form : BlockForm) (rows : List Row) (H : History) (es : List Entry) (t : ℕ) (p : Phase) → EndsAs p (job_reply.Committed t) → Wrote form rows H es p → IsWritten form rows H t
-committed_end form rows H es t (Committed u) ends was = subst (IsWritten form rows H) (same u ends) was
+committed_end : (form : BlockForm) (buckets : ℕ) (rows : List Row) (H : History) (es : List Entry) (t : ℕ) (p : Phase) → EndsAs p (job_reply.Committed t) → Wrote form buckets rows H es p → IsWritten form buckets rows H t
+committed_end form buckets rows H es t (Committed u) ends was = subst (IsWritten form buckets rows H) (same u ends) was
   where
     same : (u : ℕ) → job_reply.Committed t ≡ job_reply.Committed u → u ≡ t
     same u e = cc
-committed_end form rows H es t Fresh ends was = absurd (other ends)
+committed_end form buckets rows H es t Fresh ends was = absurd (other ends)
   where
     other : job_reply.Committed t ≡ job_reply.Memory → ⊥
     other e = cc
-committed_end form rows H es t p ends was = absurd ends
+committed_end form buckets rows H es t p ends was = absurd ends
 
-pub batch_written : (work : Work) (form : BlockForm) (rows : List Row) (before after : History) (job : Job) (mine : List Entry) (t : ℕ) → IsMadeBy job before after mine → IsLegal work (fresh form.table) after
-    → WritesBatch form rows mine → IsWriterReply mine (job_reply.Committed t) → IsWritten form rows after t
-batch_written work form rows before after job mine t made legal wrote reply_is =
-    subst (λ H. IsWritten form rows H t) (sym made.are)
-    (committed_end form rows (mine ++ before) mine t (phase mine) reply_is.ended
-    (writer_wrote work form rows before job mine made.first made.all wrote (subst (IsLegal work (fresh form.table)) made.are legal)))
+pub batch_written : (work : Work) (form : BlockForm) (buckets : ℕ) (rows : List Row) (before after : History) (job : Job) (mine : List Entry) (t : ℕ) → IsMadeBy job before after mine → IsLegal work (fresh form.table buckets) after
+    → WritesBatch form rows mine → IsWriterReply mine (job_reply.Committed t) → IsWritten form buckets rows after t
+batch_written work form buckets rows before after job mine t made legal wrote reply_is =
+    subst (λ H. IsWritten form buckets rows H t) (sym made.are)
+    (committed_end form buckets rows (mine ++ before) mine t (phase mine) reply_is.ended
+    (writer_wrote work form buckets rows before job mine made.first made.all wrote (subst (IsLegal work (fresh form.table buckets)) made.are legal)))
 
--- where all rows lie in the group of the table
-pub whole_batch : (work : Work) (form : BlockForm) (rows : List Row) (before after : History) (job : Job) (mine : List Entry) (t : ℕ) (group : GroupRef) → IsMadeBy job before after mine
-    → IsLegal work (fresh form.table) after → WritesBatch form rows mine → IsWriterReply mine (job_reply.Committed t) → IsLive (fresh form.table) group
-    → AllByRecursion (λ row. is_in_group group row ≡ true) rows → writes_of form (fresh form.table) after t ≡ map Put (rows_from t 0 rows)
-whole_batch work form rows before after job mine t group made legal wrote reply_is live all =
-    (batch_written work form rows before after job mine t made legal wrote reply_is).wrote
-    ∙ ap (map Put) (all_go_there t 0 one_group rows (subst (λ g. AllByRecursion (λ row. is_in_group g row ≡ true) rows) live all))
+-- ---- where all rows lie in one group
+
+not_both : true ≡ false → ⊥
+not_both e = cc
+
+from_both : (a b : Bool) → (a ≡ true → b ≡ true) → (b ≡ true → a ≡ true) → a ≡ b
+from_both true b to from = sym (to refl)
+from_both false true to from = from refl
+from_both false false to from = refl
+
+-- a partition's slot is the group's
+abbrev is_at : GroupRef → (List ℕ × ℕ) → Bool
+is_at group at = bytes_eq at.0 group.partition && has_slot group at.1
+
+any_append : {X : Type 0} (p : X → Bool) (xs ys : List X) → list_any p (xs ++ ys) ≡ (list_any p xs || list_any p ys)
+any_append p [] ys = refl
+any_append p (x ∷ xs) ys = ap (λ b. p x || b) (any_append p xs ys) ∙ along (p x) (list_any p xs) (list_any p ys)
+  where
+    along : (a b c : Bool) → (a || (b || c)) ≡ ((a || b) || c)
+    along true b c = refl
+    along false b c = refl
+
+any_each : (g : GroupRef) (partition slots : List ℕ) → list_any (is_at g) (map (λ slot. (partition, slot)) slots) ≡ (bytes_eq partition g.partition && list_any (λ slot. has_slot g slot) slots)
+any_each g partition [] = none (bytes_eq partition g.partition)
+  where
+    none : (a : Bool) → false ≡ (a && false)
+    none true = refl
+    none false = refl
+any_each g partition (slot ∷ slots) = ap (λ b. is_at g (partition, slot) || b) (any_each g partition slots) ∙ over (bytes_eq partition g.partition) (has_slot g slot) _
+  where
+    over : (a b c : Bool) → ((a && b) || (a && c)) ≡ (a && (b || c))
+    over true b c = refl
+    over false b c = refl
+
+asked_each : (slots : List PartitionSlots) (g : GroupRef) → list_any (is_at g) (flat_map each_slot slots) ≡ is_asked slots g
+asked_each [] g = refl
+asked_each (asked ∷ slots) g =
+    any_append (is_at g) (each_slot asked) (flat_map each_slot slots)
+    ∙ ap (λ b. b || list_any (is_at g) (flat_map each_slot slots)) (any_each g asked.partition asked.slots)
+    ∙ ap (λ b. (bytes_eq asked.partition g.partition && list_any (λ slot. has_slot g slot) asked.slots) || b) (asked_each slots g)
+
+rows_each : (rows : List Row) (g : GroupRef) → list_any (is_at g) (map row_slot rows) ≡ list_any (is_in_group g) rows
+rows_each [] g = refl
+rows_each (row ∷ rows) g = ap (λ b. is_at g (row_slot row) || b) (rows_each rows g) ∙ ap (λ b. b || list_any (is_in_group g) rows) (along (bytes_eq row.partition g.partition) _ _)
+  where
+    along : (a b c : Bool) → (a && (b && c)) ≡ ((a && b) && c)
+    along true b c = refl
+    along false b c = refl
+
+-- the groups that are asked for are those that a row lies in
+asked_rows : (rows : List Row) (slots : List PartitionSlots) (g : GroupRef) → AreSlotsOf rows slots → is_asked slots g ≡ list_any (is_in_group g) rows
+asked_rows rows slots g asked = sym (asked_each slots g) ∙ ap (list_any (is_at g)) asked ∙ rows_each rows g
+
+some_row : (A : Table) (g h : GroupRef) (rows : List Row) → IsBuckets A.buckets → is_live A g ≡ true → is_live A h ≡ true → AllByRecursion (λ row. is_in_group g row ≡ true) rows
+    → list_any (is_in_group h) rows ≡ true → h ≡ g
+some_row A g h [] fit live_g live_h all any = cc
+some_row A g h (row ∷ rows) fit live_g live_h all any = by (is_in_group h row) refl any (some_row A g h rows fit live_g live_h all.1)
+  where
+    by : (b : Bool) → is_in_group h row ≡ b → (b || list_any (is_in_group h) rows) ≡ true → (list_any (is_in_group h) rows ≡ true → h ≡ g) → h ≡ g
+    by true here any later = one_live A h g (key_of_row row) fit live_h live_g here all.0
+    by false other any later = later any
+
+single : (gs : List GroupRef) (g : GroupRef) → ((h : GroupRef) → is_among gs h ≡ is_same_group h g) → IsStrictlySortedBy group_cmp gs → gs ≡ g ∷ []
+single [] g are sorted = absurd (not_both (sym (are g ∙ same-itself g)))
+single (x ∷ []) g are sorted = ap (λ y. y ∷ []) (same-is x g (sym (are x) ∙ ap (λ b. b || false) (same-itself x)))
+single (x ∷ (y ∷ rest)) g are sorted =
+    let first : x ≡ g = same-is x g (sym (are x) ∙ ap (λ b. b || is_among (y ∷ rest) x) (same-itself x)) in
+    let second : y ≡ g = same-is y g (sym (are y) ∙ ap (λ b. is_same_group y x || (b || is_among rest y)) (same-itself y) ∙ or_true' (is_same_group y x)) in
+    absurd (not_less g (ap (λ z. group_cmp z g) (sym first) ∙ ap (group_cmp x) (sym second) ∙ (sorted_head group_cmp x (y ∷ rest) sorted).0))
+  where
+    or_true' : (b : Bool) → (b || true) ≡ true
+    or_true' true = refl
+    or_true' false = refl
+
+    not_less : (g : GroupRef) → group_cmp g g ≡ Less → ⊥
+    not_less g less = not_both (sym (itself_group g) ∙ sym (same_group g g) ∙ ap is_eq less)
+
+no_puts : (t : ℕ) (gs : List GroupRef) → flat_map (λ group. map Put (rows_to t group [])) gs ≡ []
+no_puts t [] = refl
+no_puts t (g ∷ gs) = no_puts t gs
+
+all_in_one : (A : Table) (rows : List Row) (t : ℕ) (g : GroupRef) (writes : List Write) → IsBuckets A.buckets → is_live A g ≡ true → AllByRecursion (λ row. is_in_group g row ≡ true) rows
+    → WritesGroups rows t A writes → writes ≡ map Put (rows_from t 0 rows)
+all_in_one A [] t g writes fit live all wrote = wrote.are ∙ no_puts t wrote.groups
+all_in_one A (row ∷ rows) t g writes fit live all wrote =
+    let groups = single wrote.groups g (λ h. from_both _ _ (to h) (from h)) wrote.live.order in
+    wrote.are ∙ ap (λ gs. flat_map (λ group. map Put (rows_to t group (row ∷ rows))) gs) groups ∙ append-nil (map Put (rows_to t g (row ∷ rows)))
+    ∙ ap (map Put) (all_go_there t 0 g (row ∷ rows) all)
+  where
+    both : (a b : Bool) → (a && b) ≡ true → (a ≡ true) × (b ≡ true)
+    both true b h = (refl, h)
+    both false b h = (h, cc)
+
+    to : (h : GroupRef) → is_among wrote.groups h ≡ true → is_same_group h g ≡ true
+    to h among =
+        let tests = both (is_live A h) (is_asked wrote.slots h) (sym (wrote.live.are h) ∙ among) in
+        let same = some_row A g h (row ∷ rows) fit live tests.0 all (sym (asked_rows (row ∷ rows) wrote.slots h wrote.asked) ∙ tests.1) in
+        ap (λ x. is_same_group x g) same ∙ same-itself g
+
+    from : (h : GroupRef) → is_same_group h g ≡ true → is_among wrote.groups h ≡ true
+    from h same =
+        let is = same-is h g same in
+        wrote.live.are h ∙ ap (λ x. is_live A x && is_asked wrote.slots x) is ∙ ap (λ b. b && is_asked wrote.slots g) live
+        ∙ asked_rows (row ∷ rows) wrote.slots g wrote.asked ∙ ap (λ b. b || list_any (is_in_group g) rows) all.0
+
+pub whole_batch : (work : Work) (form : BlockForm) (buckets : ℕ) (rows : List Row) (before after : History) (job : Job) (mine : List Entry) (t : ℕ) (group : GroupRef) → IsBuckets buckets
+    → IsMadeBy job before after mine → IsLegal work (fresh form.table buckets) after → WritesBatch form rows mine → IsWriterReply mine (job_reply.Committed t)
+    → is_live (fresh form.table buckets) group ≡ true → AllByRecursion (λ row. is_in_group group row ≡ true) rows
+    → writes_of form (fresh form.table buckets) after t ≡ map Put (rows_from t 0 rows)
+whole_batch work form buckets rows before after job mine t group fit made legal wrote reply_is live all =
+    all_in_one (fresh form.table buckets) rows t group _ fit live all (batch_written work form buckets rows before after job mine t made legal wrote reply_is).wrote

@@ -40,9 +40,9 @@ none_some i e = cc
 owned_some : (j : Job) → None ≡ Some j → ⊥
 owned_some j e = cc
 
-module _ (name : List ℕ) (H : History) (t : ℕ) (was : IsClosed (fresh name) H t) where
+module _ (name : List ℕ) (buckets : ℕ) (H : History) (t : ℕ) (was : IsClosed (fresh name buckets) H t) where
   abbrev A : Table
-  A = fresh name
+  A = fresh name buckets
 
   -- nobody may go on with it
   not_owned : (j : Job) (u : ℕ) (P : Instant → Type 0) → Owns A H j u P → (u == t) ≡ false
@@ -52,7 +52,7 @@ module _ (name : List ℕ) (H : History) (t : ℕ) (was : IsClosed (fresh name) 
 
   not_concerned : (j : Job) (s : Step) (r : Reply) → May A H j s → Answers A H s r → concerns s r t ≡ false
   not_concerned j Begin (reply.Began u) may answers =
-      never (u == t) (λ here. none_some was.i (sym (undrawn A H (fresh_opened name) u answers) ∙ ap (instant_of A H) (number u t here) ∙ was.is))
+      never (u == t) (λ here. none_some was.i (sym (undrawn A H (fresh_opened name buckets) u answers) ∙ ap (instant_of A H) (number u t here) ∙ was.is))
   not_concerned j (Enter u slots) r may answers = not_owned j u _ may.0
   not_concerned j (Append u target writes bytes) r may answers = not_owned j u _ may
   not_concerned j (Finish u checkpoint) r may answers = not_owned j u _ may
@@ -70,9 +70,9 @@ module _ (name : List ℕ) (H : History) (t : ℕ) (was : IsClosed (fresh name) 
 abbrev AllClosed : Table → History → List ℕ → Type 0
 AllClosed A H us = AllByRecursion (IsClosed A H) us
 
-all_still : (name : List ℕ) (H : History) (e : Entry) (us : List ℕ) → May (fresh name) H e.job e.step → Answers (fresh name) H e.step e.reply → AllClosed (fresh name) H us → AllClosed (fresh name) (e ∷ H) us
-all_still name H e [] may answers all = tt
-all_still name H e (u ∷ us) may answers all = (closed_still name H u all.0 e may answers, all_still name H e us may answers all.1)
+all_still : (name : List ℕ) (buckets : ℕ) (H : History) (e : Entry) (us : List ℕ) → May (fresh name buckets) H e.job e.step → Answers (fresh name buckets) H e.step e.reply → AllClosed (fresh name buckets) H us → AllClosed (fresh name buckets) (e ∷ H) us
+all_still name buckets H e [] may answers all = tt
+all_still name buckets H e (u ∷ us) may answers all = (closed_still name buckets H u all.0 e may answers, all_still name buckets H e us may answers all.1)
 
 all_with : (P : ℕ → Type 0) (v : ℕ) (us : List ℕ) → P v → AllByRecursion P us → AllByRecursion P (insert_time v us)
 all_with P v [] one all = (one, tt)
@@ -93,24 +93,24 @@ closed_now A H j u v checkpoint P same owns = by (instant_of A H v) refl (subst 
       closed = refl;
     }
 
-closed_then : (name : List ℕ) (H : History) (j : Job) (s : Step) (r : Reply) → May (fresh name) H j s → Answers (fresh name) H s r → AllClosed (fresh name) H (completed_instants (fresh name) H)
-    → AllClosed (fresh name) (entry j s r ∷ H) (completed_instants (fresh name) (entry j s r ∷ H))
-closed_then name H j (Finish u checkpoint) (reply.Completed v) may answers all =
-    all_with (IsClosed (fresh name) (entry j (Finish u checkpoint) (reply.Completed v) ∷ H)) v (completed_instants (fresh name) H) (closed_now (fresh name) H j u v checkpoint _ answers may)
-    (all_still name H (entry j (Finish u checkpoint) (reply.Completed v)) (completed_instants (fresh name) H) may answers all)
-closed_then name H j Begin (reply.Completed v) may answers all = absurd answers
-closed_then name H j (Enter u slots) (reply.Completed v) may answers all = absurd answers
-closed_then name H j (Append u target writes bytes) (reply.Completed v) may answers all = absurd answers
-closed_then name H j (Pin None bases_only) (reply.Completed v) may answers all = absurd answers
-closed_then name H j (Pin (Some t) bases_only) (reply.Completed v) may answers all = absurd answers
-closed_then name H j (Unpin pin) (reply.Completed v) may answers all = absurd answers
-closed_then name H j (Read (reader.Pin q) file offset len) (reply.Completed v) may answers all = absurd answers
-closed_then name H j (Abandon u) (reply.Completed v) may answers all = absurd answers
-closed_then name H j s r may answers all = all_still name H (entry j s r) (completed_instants (fresh name) H) may answers all
+closed_then : (name : List ℕ) (buckets : ℕ) (H : History) (j : Job) (s : Step) (r : Reply) → May (fresh name buckets) H j s → Answers (fresh name buckets) H s r → AllClosed (fresh name buckets) H (completed_instants (fresh name buckets) H)
+    → AllClosed (fresh name buckets) (entry j s r ∷ H) (completed_instants (fresh name buckets) (entry j s r ∷ H))
+closed_then name buckets H j (Finish u checkpoint) (reply.Completed v) may answers all =
+    all_with (IsClosed (fresh name buckets) (entry j (Finish u checkpoint) (reply.Completed v) ∷ H)) v (completed_instants (fresh name buckets) H) (closed_now (fresh name buckets) H j u v checkpoint _ answers may)
+    (all_still name buckets H (entry j (Finish u checkpoint) (reply.Completed v)) (completed_instants (fresh name buckets) H) may answers all)
+closed_then name buckets H j Begin (reply.Completed v) may answers all = absurd answers
+closed_then name buckets H j (Enter u slots) (reply.Completed v) may answers all = absurd answers
+closed_then name buckets H j (Append u target writes bytes) (reply.Completed v) may answers all = absurd answers
+closed_then name buckets H j (Pin None bases_only) (reply.Completed v) may answers all = absurd answers
+closed_then name buckets H j (Pin (Some t) bases_only) (reply.Completed v) may answers all = absurd answers
+closed_then name buckets H j (Unpin pin) (reply.Completed v) may answers all = absurd answers
+closed_then name buckets H j (Read (reader.Pin q) file offset len) (reply.Completed v) may answers all = absurd answers
+closed_then name buckets H j (Abandon u) (reply.Completed v) may answers all = absurd answers
+closed_then name buckets H j s r may answers all = all_still name buckets H (entry j s r) (completed_instants (fresh name buckets) H) may answers all
 
-all_closed : (work : Work) (name : List ℕ) (H : History) → IsLegal work (fresh name) H → AllClosed (fresh name) H (completed_instants (fresh name) H)
-all_closed work name [] legal = tt
-all_closed work name (e ∷ H) legal = closed_then name H e.job e.step e.reply legal.1.may legal.1.answers (all_closed work name H legal.0)
+all_closed : (work : Work) (name : List ℕ) (buckets : ℕ) (H : History) → IsLegal work (fresh name buckets) H → AllClosed (fresh name buckets) H (completed_instants (fresh name buckets) H)
+all_closed work name buckets [] legal = tt
+all_closed work name buckets (e ∷ H) legal = closed_then name buckets H e.job e.step e.reply legal.1.may legal.1.answers (all_closed work name buckets H legal.0)
 
 among : (P : ℕ → Type 0) (t : ℕ) (us : List ℕ) → list_any (λ u. u == t) us ≡ true → AllByRecursion P us → P t
 among P t [] is all = let wrong : false ≡ true = is in absurd (not_true wrong)
@@ -146,14 +146,14 @@ completed_still : (A : Table) (H : History) (j : Job) (s : Step) (r : Reply) (t 
 completed_still A H j s (reply.Completed v) t is = still_among v t (completed_instants A H) is
 completed_still A H j s r t is = is
 
-pub completed_stay : (work : Work) (name : List ℕ) (H : History) (t : ℕ) (more : List Entry) → IsLegal work (fresh name) (more ++ H) → is_completed (fresh name) H t ≡ true → is_completed (fresh name) (more ++ H) t ≡ true
-completed_stay work name H t [] legal is = is
-completed_stay work name H t (e ∷ more) legal is = completed_still (fresh name) (more ++ H) e.job e.step e.reply t (completed_stay work name H t more legal.0 is)
+pub completed_stay : (work : Work) (name : List ℕ) (buckets : ℕ) (H : History) (t : ℕ) (more : List Entry) → IsLegal work (fresh name buckets) (more ++ H) → is_completed (fresh name buckets) H t ≡ true → is_completed (fresh name buckets) (more ++ H) t ≡ true
+completed_stay work name buckets H t [] legal is = is
+completed_stay work name buckets H t (e ∷ more) legal is = completed_still (fresh name buckets) (more ++ H) e.job e.step e.reply t (completed_stay work name buckets H t more legal.0 is)
 
-pub writes_stay : (work : Work) (form : BlockForm) (H : History) (t : ℕ) (more : List Entry) → IsLegal work (fresh form.table) (more ++ H) → is_completed (fresh form.table) H t ≡ true
-    → writes_of form (fresh form.table) (more ++ H) t ≡ writes_of form (fresh form.table) H t
-writes_stay work form H t [] legal is = refl
-writes_stay work form H t (e ∷ more) legal is =
-    let closed : IsClosed (fresh form.table) (more ++ H) t =
-    among (IsClosed (fresh form.table) (more ++ H)) t (completed_instants (fresh form.table) (more ++ H)) (completed_stay work form.table H t more legal.0 is) (all_closed work form.table (more ++ H) legal.0) in
-    ap (instant_writes form) (same_instant form.table (more ++ H) t closed e legal.1.may legal.1.answers) ∙ writes_stay work form H t more legal.0 is
+pub writes_stay : (work : Work) (form : BlockForm) (buckets : ℕ) (H : History) (t : ℕ) (more : List Entry) → IsLegal work (fresh form.table buckets) (more ++ H) → is_completed (fresh form.table buckets) H t ≡ true
+    → writes_of form (fresh form.table buckets) (more ++ H) t ≡ writes_of form (fresh form.table buckets) H t
+writes_stay work form buckets H t [] legal is = refl
+writes_stay work form buckets H t (e ∷ more) legal is =
+    let closed : IsClosed (fresh form.table buckets) (more ++ H) t =
+    among (IsClosed (fresh form.table buckets) (more ++ H)) t (completed_instants (fresh form.table buckets) (more ++ H)) (completed_stay work form.table buckets H t more legal.0 is) (all_closed work form.table buckets (more ++ H) legal.0) in
+    ap (instant_writes form) (same_instant form.table buckets (more ++ H) t closed e legal.1.may legal.1.answers) ∙ writes_stay work form buckets H t more legal.0 is

@@ -3,9 +3,10 @@ pub mod Batches
 pub mod Beginnings
 pub mod Made
 pub mod LogTexts
-pub mod OneSlice
+pub mod LiveSlices
 pub mod Placed
 pub mod FilesRead
+pub mod GroupFolds
 pub mod RowBlocks
 pub mod Scans
 pub mod SnapshotAnswers

@@ -1,6 +1,6 @@
 -- What the entries of one job make of a history.
-use Rattle.std.proofs.Common.{◌≡◌, inl, inr, true, cond, List, [], ◌∷◌, ◌++◌, Option, Some, None, slice_get, sym, ap, subst, ◌∙◌, arith}
-use Rattle.std.specs.Prelude.{ℕ, IsSomeAnd}
+use Rattle.std.proofs.Common.{◌≡◌, inl, inr, Bool, true, false, cond, refl, List, [], ◌∷◌, ◌++◌, Option, Some, None, slice_get, sym, ap, subst, ◌∙◌, arith}
+use Rattle.std.specs.Prelude.{ℕ, IsSomeAnd, filter}
 use Rattle.std.specs.List.{AllByRecursion}
 use Rattle.std.proofs.lemmas.Bool.Decides.{nat_tests}
 use Rattle.hudi_base.specs.declared.file_group.Target.{Target}
@@ -11,7 +11,7 @@ use Rattle.table_history.specs.declared.job.Job.{Job}
 use Rattle.table_history.specs.declared.step.Step.{Step}
 use Rattle.table_history.specs.declared.step.Step.TheVariants.{Begin, Enter, Append, Finish, Pin, Unpin, Read, Abandon}
 use Rattle.upsert_writer.specs.Blocks.{BlockForm, IsBlockOf, HasRows}
-use Rattle.upsert_writer.specs.BatchRows.{rows_to}
+use Rattle.upsert_writer.specs.BatchRows.{is_in_group, rows_from, rows_to}
 use Rattle.table_answers.specs.InTurn.{CarriesForm, CarriesRows, IsInTurn, IsItsTurn, IsMadeBy}
 use Rattle.table_query.specs.ReadBytes.{IsQueryStep, PinsAt}
 use Rattle.upsert_writer.specs.WriterSteps.{IsWriterStep, WritesBatch, targets_given}
@@ -55,10 +55,19 @@ some_with : (o : Option Target) (P Q : Target → Type 0) → ((s : Target) → 
 some_with None P Q step h = absurd h
 some_with (Some s) P Q step h = step s h
 
+rows_pass : (p : Row → Bool) (rows : List Row) → AllByRecursion (λ row. p row ≡ true) (filter p rows)
+rows_pass p [] = tt
+rows_pass p (row ∷ rows) = by (p row) refl (rows_pass p rows)
+  where
+    by : (b : Bool) → p row ≡ b → AllByRecursion (λ row. p row ≡ true) (filter p rows) → AllByRecursion (λ row. p row ≡ true) (cond b (row ∷ filter p rows) (filter p rows))
+    by true is rest = (is, rest)
+    by false is rest = rest
+
 step_carries : (form : BlockForm) (rows : List Row) (targets : List Target) (step : Step) → IsWriterStep form rows targets step → CarriesRows form targets step
 step_carries form rows targets (Append t target writes bytes) h =
-    some_with (slice_get targets target) (λ s. IsBlockOf form rows t s writes bytes) (λ s. (own : List Row) × HasRows form own t s.group writes bytes)
-    (λ s is. (rows_to t s.group rows, is)) h
+    some_with (slice_get targets target) (λ s. IsBlockOf form rows t s writes bytes)
+    (λ s. (own : List Row) × HasRows form own t s.group writes bytes × AllByRecursion (λ row. is_in_group s.group row ≡ true) own)
+    (λ s is. (rows_to t s.group rows, is, rows_pass (is_in_group s.group) (rows_from t 0 rows))) h
 step_carries form rows targets Begin h = tt
 step_carries form rows targets (Enter t slots) h = tt
 step_carries form rows targets (Finish t checkpoint) h = tt

@@ -1,31 +1,42 @@
--- The blocks that a history placed in the one slice: in their order, and log by log.
+-- The blocks that a history placed: in their order, and log by log in their slices.
 use Rattle.std.proofs.Common.{◌≡◌, ℕ, Bool, true, false, List, [], ◌∷◌, ◌++◌, refl, sym, ap, ◌∙◌, append_assoc, append-nil}
-use Rattle.std.specs.Prelude.{reverse}
+use Rattle.std.specs.Prelude.{filter, reverse, Option, Some, None}
 use Rattle.std.specs.List.{flat_map}
 use Rattle.std.proofs.lemmas.Grind.{flat_map-append}
 use Rattle.std.proofs.lemmas.List.{reverse-append}
+use Rattle.std.proofs.lemmas.List.Elements.{filter-append}
+use Rattle.hudi_base.specs.declared.file_group.Target.{Target}
 use Rattle.table_history.specs.Histories.{History}
-use Rattle.table_history.specs.Logs.{is_unused}
+use Rattle.table_history.specs.Logs.{is_unused, target_at}
 use Rattle.table_history.specs.Tables.{Table}
+use Rattle.table_history.specs.Targets.{is_target}
 use Rattle.table_history.specs.declared.reply.Reply.{Reply}
 use Rattle.table_history.specs.declared.reply.Reply.TheVariants as reply
 use Rattle.table_history.specs.declared.step.Step.{Step}
 use Rattle.table_history.specs.declared.step.Step.TheVariants.{Append}
-use Rattle.table_answers.proofs.OneSlice.{only}
 
--- a block by its instant and its bytes
+-- a block by its instant, the slice that it went to, and its bytes
 pub record PlacedBlock : Type 0 where
   pub t : ℕ
+  pub to : Target
   pub bytes : List ℕ
 
-abbrev pub placed_by : Step → Reply → List PlacedBlock
-placed_by (Append t target writes bytes) (reply.Placed version at) = record { t = t; bytes = bytes } ∷ []
-placed_by _ _ = []
+abbrev pub placed_at : ℕ → List ℕ → Option Target → List PlacedBlock
+placed_at t bytes None = []
+placed_at t bytes (Some s) = record { t = t; to = s; bytes = bytes } ∷ []
+
+abbrev pub placed_by : Table → History → Step → Reply → List PlacedBlock
+placed_by A H (Append t target writes bytes) (reply.Placed version at) = placed_at t bytes (target_at A H t target)
+placed_by A H _ _ = []
 
 -- in their order
-abbrev pub placed : History → List PlacedBlock
-placed [] = []
-placed (e ∷ H) = placed H ++ placed_by e.step e.reply
+abbrev pub placed : Table → History → List PlacedBlock
+placed A [] = []
+placed A (e ∷ H) = placed A H ++ placed_by A H e.step e.reply
+
+-- those that went to a slice
+abbrev pub gone_to : Target → List PlacedBlock → List PlacedBlock
+gone_to s bs = filter (λ b. is_target b.to s) bs
 
 abbrev pub chain_then : List PlacedBlock → Bool → List (List PlacedBlock) → List (List PlacedBlock)
 chain_then [] unused logs = logs
@@ -33,10 +44,10 @@ chain_then (b ∷ bs) true logs = (b ∷ bs) ∷ logs
 chain_then (b ∷ bs) false [] = (b ∷ bs) ∷ []
 chain_then (b ∷ bs) false (log ∷ logs) = (log ++ (b ∷ bs)) ∷ logs
 
--- log by log, the last log first
-abbrev pub chain : Table → History → List (List PlacedBlock)
-chain A [] = []
-chain A (e ∷ H) = chain_then (placed_by e.step e.reply) (is_unused A H only) (chain A H)
+-- the blocks of a slice log by log, the last log first
+abbrev pub chain : Table → History → Target → List (List PlacedBlock)
+chain A [] s = []
+chain A (e ∷ H) s = chain_then (gone_to s (placed_by A H e.step e.reply)) (is_unused A H s) (chain A H s)
 
 -- lists, one behind another
 abbrev pub joined : {X : Type 0} → List (List X) → List X
@@ -57,8 +68,9 @@ chain_joined (b ∷ bs) false [] = joined_last [] (b ∷ bs)
 chain_joined (b ∷ bs) false (log ∷ logs) =
     joined_last logs (log ++ (b ∷ bs)) ∙ sym (append_assoc (joined (reverse logs)) log (b ∷ bs)) ∙ ap (λ before. before ++ (b ∷ bs)) (sym (joined_last logs log))
 
--- the logs, one behind another in their order, have the blocks in theirs
-pub chain_is_placed : (A : Table) (H : History) → joined (reverse (chain A H)) ≡ placed H
-chain_is_placed A [] = refl
-chain_is_placed A (e ∷ H) =
-    chain_joined (placed_by e.step e.reply) (is_unused A H only) (chain A H) ∙ ap (λ before. before ++ placed_by e.step e.reply) (chain_is_placed A H)
+-- the logs of a slice, one behind another in their order, have its blocks in theirs
+pub chain_is_placed : (A : Table) (H : History) (s : Target) → joined (reverse (chain A H s)) ≡ gone_to s (placed A H)
+chain_is_placed A [] s = refl
+chain_is_placed A (e ∷ H) s =
+    chain_joined (gone_to s (placed_by A H e.step e.reply)) (is_unused A H s) (chain A H s) ∙ ap (λ before. before ++ gone_to s (placed_by A H e.step e.reply)) (chain_is_placed A H s)
+    ∙ sym (filter-append (λ (b : PlacedBlock). is_target b.to s) (placed A H) (placed_by A H e.step e.reply))

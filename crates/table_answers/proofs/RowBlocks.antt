@@ -1,6 +1,6 @@
 -- Each placed block holds the rows of some batch, as the form of the table's blocks says.
-use Rattle.std.proofs.Common.{◌≡◌, inl, ℕ, Bool, true, false, cond, List, [], ◌∷◌, map, length, Option, Some, None, Ok, slice_get, refl, sym, ap, subst, ◌∙◌, append-nil}
-use Rattle.std.specs.Prelude.{IsSomeAnd}
+use Rattle.std.proofs.Common.{◌≡◌, ℕ, Bool, true, false, cond, List, [], ◌∷◌, map, length, Option, Some, None, Ok, slice_get, refl, sym, ap, subst, ◌∙◌, append-nil, ◌+◌}
+use Rattle.std.specs.Prelude.{IsSomeAnd, ◌==◌}
 use Rattle.std.specs.List.{AllByRecursion}
 use Rattle.hudi_base.specs.declared.file_group.Target.{Target}
 use Rattle.log_block.specs.Form.{Fits, block_bytes}
@@ -11,73 +11,128 @@ use Rattle.log_block.proofs.Blocks.{block_at_again}
 use Rattle.payload_merge.specs.Contents.{data_writes, puts_of}
 use Rattle.payload_merge.specs.declared.row.Row.{Row}
 use Rattle.payload_merge.specs.declared.row.Write.TheVariants.{Put}
-use Rattle.table_history.specs.Answers.{Answers}
-use Rattle.table_history.specs.Histories.{History, is_job, own}
-use Rattle.table_history.specs.JobLaw.{Work, IsLegal}
-use Rattle.table_history.specs.Tables.{Table}
+use Rattle.table_history.proofs.OwnEntries.{linked}
+use Rattle.table_history.specs.Histories.{History, own}
+use Rattle.table_history.specs.Logs.{target_at}
+use Rattle.table_history.specs.Concerns.{HasPlaced, IsOpened, Stands}
+use Rattle.table_history.specs.Instants.{instant_of, targets_of}
+use Rattle.table_history.specs.JobLaw.{Work, IsLegal, Phase, Fresh, Drawn, Writes, Committed, Owes, Reads, Leaves, Ended, Allows, next_phase, phase}
+use Rattle.table_history.specs.Tables.{Table, Instant}
 use Rattle.table_history.specs.declared.entry.Entry.{Entry}
 use Rattle.table_history.specs.declared.job.Job.{Job}
+use Rattle.file_names.specs.declared.file_name.State.TheVariants as state
+use Rattle.std.specs.Option.{option_map_or}
 use Rattle.table_history.specs.declared.reply.Reply.{Reply}
 use Rattle.table_history.specs.declared.reply.Reply.TheVariants as reply
 use Rattle.table_history.specs.declared.step.Step.{Step}
-use Rattle.table_history.specs.declared.step.Step.TheVariants.{Enter, Append}
+use Rattle.table_history.specs.declared.step.Step.TheVariants.{Begin, Enter, Append, Finish, Pin, Unpin, Read, Abandon}
 use Rattle.table_images.proofs.SameLogs.{entry}
 use Rattle.table_images.proofs.Texts.{fit_more}
 use Rattle.table_jobs.specs.Places.{place_in}
+use Rattle.upsert_writer.specs.BatchRows.{is_in_group}
 use Rattle.upsert_writer.specs.Blocks.{BlockForm, HasRows}
 use Rattle.table_answers.specs.InTurn.{CarriesForm, CarriesRows}
 use Rattle.table_answers.specs.InstantWrites.{block_writes, or_none, writes_read}
 use Rattle.upsert_writer.specs.WriterSteps.{targets_given}
-use Rattle.table_answers.proofs.OneSlice.{IsOnly, of_slots, only, only_at}
-use Rattle.table_answers.proofs.Placed.{PlacedBlock, placed, placed_by}
+use Rattle.table_answers.proofs.Placed.{PlacedBlock, placed, placed_at, placed_by}
 
 -- ---- targets
 
-given_only : (A : Table) (H : History) (j : Job) (s : Step) (r : Reply) (es : List Entry) → Answers A H s r → IsOnly (targets_given es) → IsOnly (targets_given (entry j s r ∷ es))
-given_only A H j (Enter t slots) (reply.Entered targets) es answers before = subst IsOnly (sym answers) (of_slots slots)
-given_only A H j s r es answers before = before
+-- a writer was given the targets of its instant
+abbrev IsGiven : Phase → List Target → Type 0
+IsGiven (Writes t targets placed) given = given ≡ targets
+IsGiven _ given = Unit {0}
 
--- the targets that a job was given are the one slice
-pub targets_only : (work : Work) (A : Table) (H : History) (job : Job) → IsLegal work A H → IsOnly (targets_given (own job H))
-targets_only work A [] job legal = inl refl
-targets_only work A (e ∷ H) job legal = by (is_job job e.job) (targets_only work A H job legal.0)
+given_next : (p : Phase) (s : Step) (r : Reply) (es : List Entry) (job : Job) → IsGiven p (targets_given es) → IsGiven (next_phase p s r) (targets_given (entry job s r ∷ es))
+given_next (Drawn t) (Enter u slots) (reply.Entered targets) es job was = refl
+given_next (Writes t targets placed) (Append u target writes bytes) (reply.Placed version at) es job was = was
+given_next Fresh Begin (reply.Began t) es job was = tt
+given_next Fresh (Pin at bases_only) (reply.Pinned view) es job was = tt
+given_next Fresh s r es job was = tt
+given_next (Drawn t) (Abandon u) r es job was = tt
+given_next (Drawn t) s r es job was = tt
+given_next (Writes t targets placed) (Finish u checkpoint) (reply.Completed v) es job was = tt
+given_next (Writes t targets placed) (Abandon u) r es job was = tt
+given_next (Writes t targets placed) s r es job was = tt
+given_next (Committed t) s r es job was = tt
+given_next (Owes t) s r es job was = tt
+given_next (Reads pin [] at) (Read from number offset len) (reply.Piece bytes) es job was = tt
+given_next (Reads pin (file ∷ files) at) (Read from number offset len) (reply.Piece bytes) es job was = by (at + len == file.1)
   where
-    by : (b : Bool) → IsOnly (targets_given (own job H)) → IsOnly (targets_given (cond b (e ∷ own job H) (own job H)))
-    by true before = given_only A H e.job e.step e.reply (own job H) legal.1.answers before
-    by false before = before
+    by : (b : Bool) → IsGiven (cond b (Reads pin files 0) (Reads pin (file ∷ files) (at + len))) (targets_given (entry job (Read from number offset len) (reply.Piece bytes) ∷ es))
+    by true = tt
+    by false = tt
+given_next (Reads pin files at) (Unpin q) r es job was = tt
+given_next (Reads pin files at) s r es job was = tt
+given_next (Leaves pin) s r es job was = tt
+given_next Ended s r es job was = tt
+
+pub given_of : (es : List Entry) → IsGiven (phase es) (targets_given es)
+given_of [] = tt
+given_of (e ∷ es) = given_next (phase es) e.step e.reply es e.job (given_of es)
+
+-- so the targets that it was given are those that the table has of its instant
+given_is : (work : Work) (A : Table) (H : History) (job : Job) (p : Phase) (given : List Target) (t target writes : ℕ) (bytes : List ℕ) → IsGiven p given → Stands A H job p
+    → Allows work job p (Append t target writes bytes) → given ≡ targets_of A H t
+given_is work A H job (Writes u targets blocks) given t target writes bytes is stands allowed =
+    is ∙ by (instant_of A H u) stands ∙ ap (targets_of A H) (sym allowed.0)
+  where
+    by : (o : Option Instant) → IsSomeAnd o (λ i. (i.owner ≡ Some job) × ((i.state ≡ state.Inflight) × (i.targets ≡ targets) × HasPlaced blocks i)) → targets ≡ option_map_or (λ (i : Instant). i.targets) o []
+    by None stands = absurd stands
+    by (Some i) stands = sym stands.1.1
+given_is work A H job p given t target writes bytes is stands allowed = absurd allowed
 
 -- ---- blocks
 
--- one whole data block of the instant, that the form reads as the writes that are told of it
-pub record IsRowBlock (form : BlockForm) (b : PlacedBlock) : Type 0 where
+-- one whole data block of the instant, that the form reads as rows of the slice's group
+pub record IsRowBlock (form : BlockForm) (s : Target) (b : PlacedBlock) : Type 0 where
+  pub to : b.to ≡ s
   pub content : List ℕ
   pub fits : Fits (Data b.t form.schema content)
   pub is : b.bytes ≡ block_bytes (Data b.t form.schema content)
-  pub reads : data_writes form.reading (place_in form.table b.t only.group) content ≡ Ok (block_writes form (Some only) b.bytes)
+  pub rows : List Row
+  pub own : AllByRecursion (λ row. is_in_group s.group row ≡ true) rows
+  pub reads : data_writes form.reading (place_in form.table b.t s.group) content ≡ Ok (map Put rows)
+  pub writes : block_writes form (Some s) b.bytes ≡ map Put rows
 
 -- the writes of a block of rows are their puts
-pub block_of_rows : (form : BlockForm) (t writes : ℕ) (bytes : List ℕ) (rows : List Row) → HasRows form rows t only.group writes bytes → block_writes form (Some only) bytes ≡ map Put rows
-block_of_rows form t writes bytes rows has =
+pub block_of_rows : (form : BlockForm) (s : Target) (t writes : ℕ) (bytes : List ℕ) (rows : List Row) → HasRows form rows t s.group writes bytes → block_writes form (Some s) bytes ≡ map Put rows
+block_of_rows form s t writes bytes rows has =
     let there : block_at bytes ≡ Whole (Data t form.schema has.content) (length (block_bytes (Data t form.schema has.content))) =
     ap block_at (has.is ∙ sym (append-nil (block_bytes (Data t form.schema has.content)))) ∙ block_at_again (Data t form.schema has.content) [] has.fits in
-    ap (writes_read form only) there ∙ ap (λ read. or_none (puts_of read)) has.reads
+    ap (writes_read form s) there ∙ ap (λ read. or_none (puts_of read)) has.reads
 
-row_block : (form : BlockForm) (t writes : ℕ) (bytes : List ℕ) (rows : List Row) → HasRows form rows t only.group writes bytes → IsRowBlock form (record { t = t; bytes = bytes })
-row_block form t writes bytes rows has =
-    record { content = has.content; fits = has.fits; is = has.is; reads = ap puts_of has.reads ∙ ap Ok (sym (block_of_rows form t writes bytes rows has)) }
+row_block : (form : BlockForm) (s : Target) (t writes : ℕ) (bytes : List ℕ) (rows : List Row) → HasRows form rows t s.group writes bytes → AllByRecursion (λ row. is_in_group s.group row ≡ true) rows
+    → IsRowBlock form s (record { t = t; to = s; bytes = bytes })
+row_block form s t writes bytes rows has own = record {
+  to = refl;
+  content = has.content;
+  fits = has.fits;
+  is = has.is;
+  rows = rows;
+  own = own;
+  reads = ap puts_of has.reads;
+  writes = block_of_rows form s t writes bytes rows has;
+}
 
-carried : (form : BlockForm) (t writes : ℕ) (bytes : List ℕ) (o : Option Target) → IsSomeAnd o (λ s. (rows : List Row) × HasRows form rows t s.group writes bytes) → ((s : Target) → o ≡ Some s → s ≡ only)
-    → IsRowBlock form (record { t = t; bytes = bytes })
-carried form t writes bytes None has one = absurd has
-carried form t writes bytes (Some s) has one = row_block form t writes bytes has.0 (subst (λ (x : Target). HasRows form has.0 t x.group writes bytes) (one s refl) has.1)
+abbrev pub AllRowBlocks : BlockForm → List PlacedBlock → Type 0
+AllRowBlocks form bs = AllByRecursion (λ b. IsRowBlock form b.to b) bs
 
-placed_carries : (form : BlockForm) (targets : List Target) (s : Step) (r : Reply) → IsOnly targets → CarriesRows form targets s → AllByRecursion (IsRowBlock form) (placed_by s r)
-placed_carries form targets (Append t target writes bytes) (reply.Placed version at) are carries =
-    (carried form t writes bytes (slice_get targets target) carries (λ s is. only_at targets target s are is), tt)
-placed_carries form targets s r are carries = tt
+carried : (form : BlockForm) (t writes : ℕ) (bytes : List ℕ) (o : Option Target)
+    → IsSomeAnd o (λ s. (rows : List Row) × HasRows form rows t s.group writes bytes × AllByRecursion (λ row. is_in_group s.group row ≡ true) rows) → AllRowBlocks form (placed_at t bytes o)
+carried form t writes bytes None has = absurd has
+carried form t writes bytes (Some s) has = (row_block form s t writes bytes has.0 has.1 has.2, tt)
 
-pub all_row_blocks : (form : BlockForm) (work : Work) (A : Table) (H : History) → IsLegal work A H → CarriesForm form H → AllByRecursion (IsRowBlock form) (placed H)
-all_row_blocks form work A [] legal carries = tt
-all_row_blocks form work A (e ∷ H) legal carries =
-    fit_more (IsRowBlock form) (placed H) (placed_by e.step e.reply) (all_row_blocks form work A H legal.0 carries.1)
-    (placed_carries form (targets_given (own e.job H)) e.step e.reply (targets_only work A H e.job legal.0) carries.0)
+placed_carries : (form : BlockForm) (work : Work) (A : Table) (H : History) (job : Job) (p : Phase) (given : List Target) (s : Step) (r : Reply) → IsGiven p given → Stands A H job p → Allows work job p s
+    → CarriesRows form given s → AllRowBlocks form (placed_by A H s r)
+placed_carries form work A H job p given (Append t target writes bytes) (reply.Placed version at) is stands allowed carries =
+    carried form t writes bytes (target_at A H t target)
+    (subst (λ (targets : List Target). IsSomeAnd (slice_get targets target) (λ s. (rows : List Row) × HasRows form rows t s.group writes bytes × AllByRecursion (λ row. is_in_group s.group row ≡ true) rows))
+    (given_is work A H job p given t target writes bytes is stands allowed) carries)
+placed_carries form work A H job p given s r is stands allowed carries = tt
+
+pub all_row_blocks : (form : BlockForm) (work : Work) (A : Table) (H : History) → IsOpened A → IsLegal work A H → CarriesForm form H → AllRowBlocks form (placed A H)
+all_row_blocks form work A [] opened legal carries = tt
+all_row_blocks form work A (e ∷ H) opened legal carries =
+    fit_more (λ b. IsRowBlock form b.to b) (placed A H) (placed_by A H e.step e.reply) (all_row_blocks form work A H opened legal.0 carries.1)
+    (placed_carries form work A H e.job (phase (own e.job H)) (targets_given (own e.job H)) e.step e.reply (given_of (own e.job H)) (linked work A H opened legal.0 e.job) legal.2 carries.0)

@@ -9,11 +9,12 @@ use Rattle.log_scan.specs.Texts.{bytes_of_blocks, scan_of}
 use Rattle.log_scan.specs.declared.found.Scan.{Scan}
 use Rattle.log_scan.proofs.TextsOfBlocks.{whole_text}
 use Rattle.payload_merge.specs.Contents.{data_writes}
+use Rattle.hudi_base.specs.declared.file_group.Target.{Target}
 use Rattle.payload_merge.specs.declared.row.Write.{Write}
+use Rattle.payload_merge.specs.declared.row.Write.TheVariants.{Put}
 use Rattle.table_history.specs.Logs.{bytes_in}
 use Rattle.table_history.specs.Pins.{part_of}
 use Rattle.table_history.specs.Tables.{KnownFile, Table}
-use Rattle.table_history.specs.Targets.{one_group}
 use Rattle.table_history.specs.declared.log_file.LogFile.{LogFile}
 use Rattle.table_history.specs.declared.view.Part.{Part}
 use Rattle.table_jobs.specs.Places.{place_in}
@@ -22,7 +23,6 @@ use Rattle.table_query.specs.declared.logs.PartLog.{PartLog}
 use Rattle.upsert_writer.specs.Blocks.{BlockForm}
 use Rattle.table_answers.specs.InstantWrites.{block_writes}
 use Rattle.table_answers.proofs.LogTexts.{AreTexts}
-use Rattle.table_answers.proofs.OneSlice.{only}
 use Rattle.table_answers.proofs.Placed.{PlacedBlock, bytes_of_placed, joined}
 use Rattle.table_answers.proofs.RowBlocks.{IsRowBlock}
 use Rattle.table_answers.proofs.Writes.{counted}
@@ -34,11 +34,11 @@ picked : (c : Bool) (writes : List Write) → cond c (found writes) (found []) �
 picked true writes = refl
 picked false writes = refl
 
-module _ (form : BlockForm) where
+module _ (form : BlockForm) (s : Target) where
   abbrev pub AllRows : List PlacedBlock → Type 0
-  AllRows bs = AllByRecursion (IsRowBlock form) bs
+  AllRows bs = AllByRecursion (IsRowBlock form s) bs
 
-  abbrev pub block_of : (b : PlacedBlock) → IsRowBlock form b → Block
+  abbrev pub block_of : (b : PlacedBlock) → IsRowBlock form s b → Block
   block_of b row = Data b.t form.schema row.content
 
   abbrev pub blocks_of : (bs : List PlacedBlock) → AllRows bs → List Block
@@ -65,27 +65,27 @@ module _ (form : BlockForm) where
   AllLogRows bss = AllByRecursion AllRows bss
 
   abbrev pub log_with : Table → LogFile → (bs : List PlacedBlock) → AllRows bs → PartLog
-  log_with A log bs all = record { name = (part_of A only log).name; blocks = blocks_of bs all }
+  log_with A log bs all = record { name = (part_of A s log).name; blocks = blocks_of bs all }
 
   abbrev pub part_logs : Table → List LogFile → (bss : List (List PlacedBlock)) → AllLogRows bss → List PartLog
   part_logs A logs [] all = []
   part_logs A [] (bs ∷ rest) all = []
   part_logs A (log ∷ logs) (bs ∷ rest) all = log_with A log bs all.0 ∷ part_logs A logs rest all.1
 
-  log_read : (A : Table) (log : LogFile) (bs : List PlacedBlock) (all : AllRows bs) (bytes : List ℕ) → bytes ≡ bytes_of_placed bs → log_of (part_of A only log) bytes ≡ Ok (log_with A log bs all ∷ [])
+  log_read : (A : Table) (log : LogFile) (bs : List PlacedBlock) (all : AllRows bs) (bytes : List ℕ) → bytes ≡ bytes_of_placed bs → log_of (part_of A s log) bytes ≡ Ok (log_with A log bs all ∷ [])
   log_read A log bs all bytes is = rw (is, scanned bs all) refl
 
-  pub logs_read : (A : Table) (fs : List KnownFile) (bytes : ℕ → List ℕ) (n : ℕ) (logs : List LogFile) (bss : List (List PlacedBlock)) (all : AllLogRows bss) → AreTexts A fs logs bss
-      → ((k : ℕ) (part : Part) → slice_get (map (part_of A only) logs) k ≡ Some part → bytes (n + k) ≡ bytes_in fs part.name)
-      → logs_of bytes n (map (part_of A only) logs) ≡ Ok (part_logs A logs bss all)
+  pub logs_read : (A : Table) (fs : List KnownFile) (bytes : ℕ → List ℕ) (n : ℕ) (logs : List LogFile) (bss : List (List PlacedBlock)) (all : AllLogRows bss) → AreTexts A s fs logs bss
+      → ((k : ℕ) (part : Part) → slice_get (map (part_of A s) logs) k ≡ Some part → bytes (n + k) ≡ bytes_in fs part.name)
+      → logs_of bytes n (map (part_of A s) logs) ≡ Ok (part_logs A logs bss all)
   logs_read A fs bytes n [] [] all texts are = refl
   logs_read A fs bytes n [] (bs ∷ rest) all texts are = absurd texts
   logs_read A fs bytes n (log ∷ logs) [] all texts are = absurd texts
   logs_read A fs bytes n (log ∷ logs) (bs ∷ rest) all texts are =
-      let first : bytes n ≡ bytes_of_placed bs = ap bytes (sym (add_none n)) ∙ are 0 (part_of A only log) refl ∙ texts.0.bytes in
-      let later : logs_of bytes (n + 1) (map (part_of A only) logs) ≡ Ok (part_logs A logs rest all.1) =
+      let first : bytes n ≡ bytes_of_placed bs = ap bytes (sym (add_none n)) ∙ are 0 (part_of A s log) refl ∙ texts.0.bytes in
+      let later : logs_of bytes (n + 1) (map (part_of A s) logs) ≡ Ok (part_logs A logs rest all.1) =
       logs_read A fs bytes (n + 1) logs rest all.1 texts.1 (λ k part there. ap bytes (next n k) ∙ are (suc k) part there) in
-      ap (λ found. followed_by found (logs_of bytes (n + 1) (map (part_of A only) logs))) (log_read A log bs all.0 (bytes n) first) ∙ ap (followed_by (Ok (log_with A log bs all.0 ∷ []))) later
+      ap (λ found. followed_by found (logs_of bytes (n + 1) (map (part_of A s) logs))) (log_read A log bs all.0 (bytes n) first) ∙ ap (followed_by (Ok (log_with A log bs all.0 ∷ []))) later
     where
       add_none : (n : ℕ) → n + 0 ≡ n
       add_none n = omega arith
@@ -97,30 +97,31 @@ module _ (form : BlockForm) where
 
   -- of data blocks those of the instants count
   abbrev Counts : List ℕ → (Block → Bool) → Type 0
-  Counts times cf = (b : PlacedBlock) (row : IsRowBlock form b) → cf (block_of b row) ≡ is_among times b.t
+  Counts times cf = (b : PlacedBlock) (row : IsRowBlock form s b) → cf (block_of b row) ≡ is_among times b.t
 
   module _ (times : List ℕ) (cf : Block → Bool) (data_counts : Counts times cf) where
     abbrev reading : TableReading
     reading = record { rows = form.reading; table = form.table }
 
-    block_gives_writes : (n : ℕ) (b : PlacedBlock) (row : IsRowBlock form b) → block_gives reading one_group cf n (block_of b row) ≡ Ok (counted form times b)
+    block_gives_writes : (n : ℕ) (b : PlacedBlock) (row : IsRowBlock form s b) → block_gives reading s.group cf n (block_of b row) ≡ Ok (counted form times b)
     block_gives_writes n b row =
-        ap (λ c. cond c (numbered n (data_writes form.reading (place_in form.table b.t one_group) row.content)) (Ok [])) (data_counts b row)
-        ∙ ap (λ found. cond (is_among times b.t) (numbered n found) (Ok [])) row.reads ∙ picked (is_among times b.t) (block_writes form (Some only) b.bytes)
+        ap (λ c. cond c (numbered n (data_writes form.reading (place_in form.table b.t s.group) row.content)) (Ok [])) (data_counts b row)
+        ∙ ap (λ found. cond (is_among times b.t) (numbered n found) (Ok [])) row.reads ∙ picked (is_among times b.t) (map Put row.rows)
+        ∙ ap (λ writes. Ok (cond (is_among times b.t) writes [])) (sym (ap (λ r. block_writes form (Some r) b.bytes) row.to ∙ row.writes))
 
-    blocks_give_writes : (n : ℕ) (bs : List PlacedBlock) (all : AllRows bs) → all_from one_each (block_gives reading one_group cf) n (blocks_of bs all) ≡ Ok (flat_map (counted form times) bs)
+    blocks_give_writes : (n : ℕ) (bs : List PlacedBlock) (all : AllRows bs) → all_from one_each (block_gives reading s.group cf) n (blocks_of bs all) ≡ Ok (flat_map (counted form times) bs)
     blocks_give_writes n [] all = refl
     blocks_give_writes n (b ∷ bs) all =
-        ap (λ found. followed_by found (all_from one_each (block_gives reading one_group cf) (n + 1) (blocks_of bs all.1))) (block_gives_writes n b all.0)
+        ap (λ found. followed_by found (all_from one_each (block_gives reading s.group cf) (n + 1) (blocks_of bs all.1))) (block_gives_writes n b all.0)
         ∙ ap (followed_by (Ok (counted form times b))) (blocks_give_writes (n + 1) bs all.1)
 
-    logs_give_writes : (A : Table) (n : ℕ) (logs : List LogFile) (bss : List (List PlacedBlock)) (all : AllLogRows bss) (fs : List KnownFile) → AreTexts A fs logs bss
-        → all_from one_each (log_gives reading one_group cf) n (part_logs A logs bss all) ≡ Ok (flat_map (counted form times) (joined bss))
+    logs_give_writes : (A : Table) (n : ℕ) (logs : List LogFile) (bss : List (List PlacedBlock)) (all : AllLogRows bss) (fs : List KnownFile) → AreTexts A s fs logs bss
+        → all_from one_each (log_gives reading s.group cf) n (part_logs A logs bss all) ≡ Ok (flat_map (counted form times) (joined bss))
     logs_give_writes A n [] [] all fs texts = refl
     logs_give_writes A n [] (bs ∷ rest) all fs texts = absurd texts
     logs_give_writes A n (log ∷ logs) [] all fs texts = absurd texts
     logs_give_writes A n (log ∷ logs) (bs ∷ rest) all fs texts =
-        ap (λ found. followed_by (in_part (part_of A only log).name found) (all_from one_each (log_gives reading one_group cf) (n + 1) (part_logs A logs rest all.1))) (blocks_give_writes 0 bs all.0)
+        ap (λ found. followed_by (in_part (part_of A s log).name found) (all_from one_each (log_gives reading s.group cf) (n + 1) (part_logs A logs rest all.1))) (blocks_give_writes 0 bs all.0)
         ∙ ap (followed_by (Ok (flat_map (counted form times) bs))) (logs_give_writes A (n + 1) logs rest all.1 fs texts.1)
         ∙ ap Ok (sym (flat_map-append (counted form times) bs (joined rest)))
 
@@ -143,8 +144,8 @@ module _ (form : BlockForm) where
       by true = refl
       by false = refl
 
-  pub logs_written : (A : Table) (times : List ℕ) (logs : List LogFile) (bss : List (List PlacedBlock)) (all : AllLogRows bss) (fs : List KnownFile) → AreTexts A fs logs bss
-      → logs_writes (record { rows = form.reading; table = form.table }) one_group (counts times (voided (part_logs A logs bss all))) (part_logs A logs bss all)
+  pub logs_written : (A : Table) (times : List ℕ) (logs : List LogFile) (bss : List (List PlacedBlock)) (all : AllLogRows bss) (fs : List KnownFile) → AreTexts A s fs logs bss
+      → logs_writes (record { rows = form.reading; table = form.table }) s.group (counts times (voided (part_logs A logs bss all))) (part_logs A logs bss all)
       ≡ Ok (flat_map (counted form times) (joined bss))
   logs_written A times logs bss all fs texts =
       logs_give_writes times (counts times (voided (part_logs A logs bss all))) (data_count times (voided (part_logs A logs bss all)) (none_voided A logs bss all)) A 0 logs bss all fs texts

@@ -1,5 +1,5 @@
 -- A query in turn answers the fold of the completed instants.
-use Rattle.std.proofs.Common.{◌≡◌, ℕ, false, List, [], ◌∷◌, ◌++◌, Option, Some, None, Ok, slice_get, refl, sym, ap, subst, ◌∙◌}
+use Rattle.std.proofs.Common.{◌≡◌, ℕ, Bool, true, false, ◌&&◌, List, [], map, zero-add, ◌∷◌, ◌++◌, Option, Some, None, Ok, slice_get, refl, sym, ap, subst, ◌∙◌}
 use Rattle.std.specs.Prelude.{filter, nat_le, reverse}
 use Rattle.std.specs.FinMap.{empty}
 use Rattle.std.specs.List.{AllByRecursion, flat_map}
@@ -11,8 +11,17 @@ use Rattle.table_core.specs.declared.job_reply.JobReply.TheVariants as job_reply
 use Rattle.table_history.specs.Histories.{History}
 use Rattle.table_history.specs.Instants.{completed_instants}
 use Rattle.table_history.specs.JobLaw.{Work, IsLegal, phase}
-use Rattle.table_history.specs.Logs.{bytes_in, files_of}
-use Rattle.table_history.specs.Pins.{IsView, completed_for, part_at, view_groups}
+use Rattle.table_history.specs.Answers.{May}
+use Rattle.table_history.specs.Logs.{bytes_in, files_of, target_at}
+use Rattle.hudi_base.specs.declared.file_group.GroupRef.{GroupRef}
+use Rattle.hudi_base.specs.declared.file_group.Target.{Target}
+use Rattle.key_index.specs.Tiling.{IsBuckets}
+use Rattle.key_index.proofs.FirstTiles.{each-among}
+use Rattle.table_history.specs.Targets.{AreLive, is_live}
+use Rattle.table_history.specs.declared.step.Step.{Step}
+use Rattle.table_history.specs.declared.step.Step.TheVariants.{Append}
+use Rattle.table_images.proofs.Texts.{fit_more}
+use Rattle.table_history.specs.Pins.{ArePartsAt, IsView, completed_for, has_files, part_at}
 use Rattle.table_history.specs.Tables.{Table, fresh}
 use Rattle.table_history.specs.declared.entry.Entry.{Entry}
 use Rattle.table_history.specs.declared.job.Job.{Job}
@@ -33,12 +42,14 @@ use Rattle.table_answers.specs.Snapshots.{AnswersSnapshot, rows_at}
 use Rattle.table_answers.proofs.Beginnings.{legal_before}
 use Rattle.table_answers.proofs.FilesRead.{BeginsParts, IsSoFar, files_read, whole_beginning}
 use Rattle.table_answers.proofs.LogTexts.{IsChained, logs_have_blocks}
-use Rattle.table_answers.proofs.Placed.{placed}
-use Rattle.table_answers.proofs.RowBlocks.{IsRowBlock, all_row_blocks}
+use Rattle.table_answers.proofs.GroupFolds.{groups_fold, placed_seen}
+use Rattle.table_answers.proofs.LiveSlices.{IsOwn, appending, goes_there, instants_plain}
+use Rattle.table_answers.proofs.Placed.{placed, placed_at, placed_by}
+use Rattle.table_answers.proofs.RowBlocks.{AllRowBlocks, all_row_blocks}
 use Rattle.table_answers.proofs.Times.{falls_filtered, fold_is, rises_reversed}
 use Rattle.table_answers.proofs.Turns.{Falls, completed_fall}
-use Rattle.table_answers.proofs.ViewWrites.{files_seen, view_files, view_long, view_writes_are}
-use Rattle.table_answers.proofs.Writes.{counted, in_order}
+use Rattle.table_answers.proofs.ViewWrites.{groups_written, view_long, with_parts, writes_by_group}
+use Rattle.table_answers.proofs.Writes.{fresh_opened, in_order}
 
 -- ---- what the entries tell
 
@@ -62,54 +73,84 @@ module _ (form : BlockForm) (A : Table) (H : History) (at : Option ℕ) where
 
 -- ---- what was read
 
-module _ (form : BlockForm) (work : Work) (before : History) (legal : IsLegal work (fresh form.table) before) (turn : IsInTurn before) (carries : CarriesForm form before)
-    (names : AllNamesFit (fresh form.table) before) (at : Option ℕ) where
+-- each placed block went to the current slice of a live group
+own_more : (A : Table) (H : History) (t : ℕ) (bytes : List ℕ) (o : Option Target) → ((s : Target) → o ≡ Some s → IsOwn A s) → AllByRecursion (λ b. IsOwn A b.to) (placed_at t bytes o)
+own_more A H t bytes None own = tt
+own_more A H t bytes (Some s) own = (own s refl, tt)
+
+own_placed : (work : Work) (name : List ℕ) (buckets : ℕ) (H : History) → IsLegal work (fresh name buckets) H → AllByRecursion (λ b. IsOwn (fresh name buckets) b.to) (placed (fresh name buckets) H)
+own_placed work name buckets [] legal = tt
+own_placed work name buckets (e ∷ H) legal =
+    fit_more (λ b. IsOwn (fresh name buckets) b.to) (placed (fresh name buckets) H) (placed_by (fresh name buckets) H e.step e.reply) (own_placed work name buckets H legal.0)
+    (one e.step e.reply legal.1.may)
+  where
+    same : {x y : Target} → Some x ≡ Some y → x ≡ y
+    same is = cc
+
+    one : (st : Step) (r : Reply) → May (fresh name buckets) H e.job st → AllByRecursion (λ b. IsOwn (fresh name buckets) b.to) (placed_by (fresh name buckets) H st r)
+    one (Append t target writes bytes) (reply.Placed version at) may =
+        let to = appending (fresh name buckets) H e.job t target (instants_plain work name buckets H legal.0 t) may in
+        own_more (fresh name buckets) H t bytes (target_at (fresh name buckets) H t target)
+        (λ s is. subst (IsOwn (fresh name buckets)) (same (sym (goes_there (fresh name buckets) H t target to.0 to.1) ∙ is)) to.1.own)
+    one st r may = tt
+
+module _ (form : BlockForm) (buckets : ℕ) (fit : IsBuckets buckets) (work : Work) (before : History) (legal : IsLegal work (fresh form.table buckets) before) (turn : IsInTurn before)
+    (carries : CarriesForm form before) (names : AllNamesFit (fresh form.table buckets) before) (at : Option ℕ) where
   abbrev A : Table
-  A = fresh form.table
+  A = fresh form.table buckets
 
   abbrev reading : TableReading
   reading = record { rows = form.reading; table = form.table }
 
-  chained : IsChained A before
-  chained = logs_have_blocks work form.table before legal names
+  chained : (s : Target) → IsChained A before s
+  chained s = logs_have_blocks work form.table buckets before s legal names
 
-  rows : AllByRecursion (IsRowBlock form) (placed before)
-  rows = all_row_blocks form work A before legal carries
+  rows : AllRowBlocks form (placed A before)
+  rows = all_row_blocks form work A before (fresh_opened form.table buckets) legal carries
 
   abbrev times : ℕ → List ℕ
   times t = filter (λ u. nat_le u t) (completed_instants A before)
 
   times_fall : (t : ℕ) → Falls (times t)
-  times_fall t = falls_filtered (λ u. nat_le u t) (completed_instants A before) (completed_fall work form.table before legal turn)
+  times_fall t = falls_filtered (λ u. nat_le u t) (completed_instants A before) (completed_fall work form.table buckets before legal turn)
 
-  -- the counted blocks fold as the instants
-  folded : (t : ℕ) → rows_of (table_after_all empty (flat_map (counted form (reverse (times t))) (placed before))) ≡ rows_at form A before (Some t)
-  folded t =
-      ap (λ writes. rows_of (table_after_all empty writes)) (in_order form work form.table before legal turn (reverse (times t)) (rises_reversed (times t) (times_fall t)))
+  lives_of : (t : ℕ) (gs : List GroupRef) → AreLive A (has_files A before t false) gs → AllByRecursion (λ g. is_live A g ≡ true) gs
+  lives_of t gs live = each-among (λ g. is_live A g ≡ true) gs (λ g among. first (is_live A g) (has_files A before t false g) (sym (live.are g) ∙ among))
+    where
+      first : (a b : Bool) → (a && b) ≡ true → a ≡ true
+      first true b h = refl
+      first false b h = h
+
+  -- the counted blocks of the groups fold as the instants
+  folded : (t : ℕ) (gs : List GroupRef) → AreLive A (has_files A before t false) gs
+      → rows_of (table_after_all empty (writes_by_group form A before chained rows (reverse (times t)) gs)) ≡ rows_at form A before (Some t)
+  folded t gs live =
+      let own = own_placed work form.table buckets before legal in
+      ap rows_of (groups_fold form (reverse (times t)) A (placed A before) gs fit rows own (lives_of t gs live) live.order (placed_seen A before t gs live chained own))
+      ∙ ap (λ writes. rows_of (table_after_all empty writes)) (in_order form work form.table buckets before legal turn (reverse (times t)) (rises_reversed (times t) (times_fall t)))
       ∙ ap rows_of (sym (fold_is (writes_of form A before) (times t) (times_fall t)))
 
   made_rows : (view : View) (bytes : ℕ → List ℕ) → IsView A before at false view → ((k : ℕ) (part : Part) → part_at view k ≡ Some part → bytes k ≡ bytes_in (files_of A before) part.name)
       → AnswersSnapshot form A before at (reply_with view.t (view_writes reading view.completed bytes view.groups))
-  made_rows view bytes is are = by view.t refl
+  made_rows view bytes is are = by view.t refl view.groups is.groups are
     where
-      by : (time : Option ℕ) → view.t ≡ time → AnswersSnapshot form A before at (reply_with view.t (view_writes reading view.completed bytes view.groups))
-      by None time =
-          let groups : view.groups ≡ [] = is.groups ∙ ap (λ (o : Option ℕ). view_groups A before o false) time in
-          let empty_is : reply_with view.t (view_writes reading view.completed bytes view.groups) ≡ reply_with None (Ok []) =
-          ap (λ (gs : List GroupParts). reply_with view.t (view_writes reading view.completed bytes gs)) groups ∙ ap (λ (o : Option ℕ). reply_with o (Ok [])) time in
+      by : (time : Option ℕ) → view.t ≡ time → (groups : List GroupParts) → ArePartsAt A before time false groups
+          → ((k : ℕ) (part : Part) → slice_get (flat_map (λ (g : GroupParts). g.parts) groups) k ≡ Some part → bytes k ≡ bytes_in (files_of A before) part.name)
+          → AnswersSnapshot form A before at (reply_with view.t (view_writes reading view.completed bytes groups))
+      by None time groups none files =
+          let empty_is : reply_with view.t (view_writes reading view.completed bytes groups) ≡ reply_with None (Ok []) =
+          ap (λ (gs : List GroupParts). reply_with view.t (view_writes reading view.completed bytes gs)) none ∙ ap (λ (o : Option ℕ). reply_with o (Ok [])) time in
           subst (AnswersSnapshot form A before at) (sym empty_is) (record { at_is = sym time ∙ is.t; rows_are = rows_of-empty })
-      by (Some t) time =
-          let groups : view.groups ≡ view_groups A before (Some t) false = is.groups ∙ ap (λ (o : Option ℕ). view_groups A before o false) time in
+      by (Some t) time groups parts files =
           let completed : view.completed ≡ reverse (times t) = is.completed ∙ ap (completed_for A before) time in
-          let files : (k : ℕ) (part : Part) → slice_get (files_seen form A before chained rows (Some t)) k ≡ Some part → bytes k ≡ bytes_in (files_of A before) part.name =
-          λ k part there. are k part (ap (λ (ps : List Part). slice_get ps k) (view_files form A before chained rows at view is ∙ ap (files_seen form A before chained rows) time) ∙ there) in
-          let writes : view_writes reading view.completed bytes view.groups ≡ Ok (flat_map (counted form (reverse (times t))) (placed before)) =
-          ap (λ (gs : List GroupParts). view_writes reading view.completed bytes gs) groups ∙ ap (λ (us : List ℕ). view_writes reading us bytes (view_groups A before (Some t) false)) completed
-          ∙ view_writes_are form A before chained rows (reverse (times t)) t bytes files in
-          let found : reply_with view.t (view_writes reading view.completed bytes view.groups)
-          ≡ reply_with (Some t) (Ok (flat_map (counted form (reverse (times t))) (placed before))) =
-          ap (reply_with view.t) writes ∙ ap (λ (o : Option ℕ). reply_with o (Ok (flat_map (counted form (reverse (times t))) (placed before)))) time in
-          subst (AnswersSnapshot form A before at) (sym found) (record { at_is = sym time ∙ is.t; rows_are = folded t })
+          let writes : view_writes reading view.completed bytes groups ≡ Ok (writes_by_group form A before chained rows (reverse (times t)) parts.groups) =
+          ap (λ (gs : List GroupParts). view_writes reading view.completed bytes gs) parts.are ∙ ap (λ (us : List ℕ). view_writes reading us bytes (map (with_parts form A before chained rows t) parts.groups)) completed
+          ∙ groups_written form A before chained rows (reverse (times t)) t bytes 0 parts.groups
+          (λ k part there. ap bytes (zero-add k) ∙ files k part (ap (λ (gs : List GroupParts). slice_get (flat_map (λ (g : GroupParts). g.parts) gs) k) parts.are ∙ there)) in
+          let found : reply_with view.t (view_writes reading view.completed bytes groups)
+          ≡ reply_with (Some t) (Ok (writes_by_group form A before chained rows (reverse (times t)) parts.groups)) =
+          ap (reply_with view.t) writes ∙ ap (λ (o : Option ℕ). reply_with o (Ok (writes_by_group form A before chained rows (reverse (times t)) parts.groups))) time in
+          subst (AnswersSnapshot form A before at) (sym found) (record { at_is = sym time ∙ is.t; rows_are = folded t parts.groups parts.live })
 
   made_of : (view : View) (mine : List Entry) (given : JobReply) → IsView A before at false view → BeginsParts (files_of A before) mine view → IsMadeOf reading view (bytes_read mine) given
       → AnswersSnapshot form A before at given
@@ -133,13 +174,13 @@ module _ (form : BlockForm) (work : Work) (before : History) (legal : IsLegal wo
   answered mine given None None is tells views answer_is = subst (AnswersSnapshot form A before at) (sym answer_is) tt
   answered mine given None (Some view) is tells views made = made_of view mine given (views view is).0 (views view is).1 made
 
-pub snapshot_is_fold : (work : Work) (form : BlockForm) (before after : History) (job : Job) (mine : List Entry) (at : Option ℕ) (given : JobReply) → IsMadeBy job before after mine
-    → IsLegal work (fresh form.table) after → AllNamesFit (fresh form.table) before → IsInTurn before → CarriesForm form before → AllByRecursion IsUndamaged mine
-    → IsQueryReply (record { rows = form.reading; table = form.table }) at mine given → AnswersSnapshot form (fresh form.table) before at given
-snapshot_is_fold work form before after job mine at given made legal names turn carries whole answers =
-    let A : Table = fresh form.table in
+pub snapshot_is_fold : (work : Work) (form : BlockForm) (buckets : ℕ) (before after : History) (job : Job) (mine : List Entry) (at : Option ℕ) (given : JobReply) → IsBuckets buckets
+    → IsMadeBy job before after mine → IsLegal work (fresh form.table buckets) after → AllNamesFit (fresh form.table buckets) before → IsInTurn before → CarriesForm form before → AllByRecursion IsUndamaged mine
+    → IsQueryReply (record { rows = form.reading; table = form.table }) at mine given → AnswersSnapshot form (fresh form.table buckets) before at given
+snapshot_is_fold work form buckets before after job mine at given fit made legal names turn carries whole answers =
+    let A : Table = fresh form.table buckets in
     let all : IsLegal work A (mine ++ before) = subst (IsLegal work A) made.are legal in
     let first : IsLegal work A before = legal_before work A before mine all in
     let read : IsSoFar A before at mine (phase mine) =
-    files_read work A before at job (view_long form A before (chained form work before first turn carries names at) (rows form work before first turn carries names at) at) made.first mine made.all answers.pins all in
-    answered form work before first turn carries names at mine given (told mine) (pinned mine) refl (tells form A before at mine whole) read.views answers.answer
+    files_read work A before at job (view_long form A before (chained form buckets fit work before first turn carries names at) (rows form buckets fit work before first turn carries names at) at) made.first mine made.all answers.pins all in
+    answered form buckets fit work before first turn carries names at mine given (told mine) (pinned mine) refl (tells form A before at mine whole) read.views answers.answer

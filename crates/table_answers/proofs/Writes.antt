@@ -25,13 +25,13 @@ use Rattle.table_query.specs.GroupReading.{is_among}
 use Rattle.upsert_writer.specs.Blocks.{BlockForm}
 use Rattle.table_answers.specs.InTurn.{IsInTurn, IsItsTurn}
 use Rattle.table_answers.specs.InstantWrites.{block_writes, instant_writes, placed_writes, writes_of}
-use Rattle.table_answers.proofs.OneSlice.{ArePlain, IsAppending, appending, instants_plain, only}
-use Rattle.table_answers.proofs.Placed.{PlacedBlock, placed, placed_by}
+use Rattle.table_answers.proofs.LiveSlices.{ArePlain, IsAppending, appending, goes_there, instants_plain}
+use Rattle.table_answers.proofs.Placed.{PlacedBlock, placed, placed_at, placed_by}
 use Rattle.table_answers.proofs.Turns.{appends_last}
 
 -- the writes of a placed block, where its instant is one of these
 abbrev pub counted : BlockForm → List ℕ → PlacedBlock → List Write
-counted form times b = cond (is_among times b.t) (block_writes form (Some only) b.bytes) []
+counted form times b = cond (is_among times b.t) (block_writes form (Some b.to) b.bytes) []
 
 -- times that strictly rise
 abbrev pub Rises : List ℕ → Type 0
@@ -88,22 +88,22 @@ module _ (form : BlockForm) where
   had_none : (i : Instant) (targets : List Target) → i.blocks ≡ [] → placed_writes form targets i.blocks ≡ placed_writes form i.targets i.blocks
   had_none i targets none = ap (placed_writes form targets) none ∙ sym (ap (placed_writes form i.targets) none)
 
-  requested_none : (o : Option Instant) (j : Job) (i : Instant) → IsSomeAnd o (λ i. (i.owner ≡ Some j) × (i.state ≡ state.Requested)) → ArePlain o → o ≡ Some i → i.blocks ≡ []
-  requested_none None j i owns plain is = absurd owns
-  requested_none (Some k) j i owns plain is = let same : k ≡ i = cc in subst (λ (x : Instant). x.blocks ≡ []) same (plain.blocks owns.1)
+  requested_none : (A : Table) (o : Option Instant) (j : Job) (i : Instant) → IsSomeAnd o (λ i. (i.owner ≡ Some j) × (i.state ≡ state.Requested)) → ArePlain A o → o ≡ Some i → i.blocks ≡ []
+  requested_none A None j i owns plain is = absurd owns
+  requested_none A (Some k) j i owns plain is = let same : k ≡ i = cc in subst (λ (x : Instant). x.blocks ≡ []) same (plain.blocks owns.1)
 
   begun_now : (job : Job) (n : ℕ) (b : Bool) (o : Option Instant) → (b ≡ true → o ≡ None) → instant_writes form (cond b (Some (begun job n)) o) ≡ instant_writes form o
   begun_now job n true o new = sym (ap (instant_writes form) (new refl))
   begun_now job n false o new = refl
 
-  more_writes : (target writes : ℕ) (bytes : List ℕ) (b : Bool) (o : Option Instant) → ((i : Instant) → b ≡ true → o ≡ Some i → slice_get i.targets target ≡ Some only) → (b ≡ true → o ≡ None → ⊥)
-      → instant_writes form (cond b (option_map (with_block target writes bytes) o) o) ≡ instant_writes form o ++ cond b (block_writes form (Some only) bytes) []
-  more_writes target writes bytes true None to some = absurd (some refl refl)
-  more_writes target writes bytes false None to some = refl
-  more_writes target writes bytes true (Some i) to some = ap (λ s. placed_writes form i.targets i.blocks ++ block_writes form s bytes) (to i refl refl)
-  more_writes target writes bytes false (Some i) to some = sym (append-nil (placed_writes form i.targets i.blocks))
+  more_writes : (s : Target) (target writes : ℕ) (bytes : List ℕ) (b : Bool) (o : Option Instant) → ((i : Instant) → b ≡ true → o ≡ Some i → slice_get i.targets target ≡ Some s) → (b ≡ true → o ≡ None → ⊥)
+      → instant_writes form (cond b (option_map (with_block target writes bytes) o) o) ≡ instant_writes form o ++ cond b (block_writes form (Some s) bytes) []
+  more_writes s target writes bytes true None to some = absurd (some refl refl)
+  more_writes s target writes bytes false None to some = refl
+  more_writes s target writes bytes true (Some i) to some = ap (λ r. placed_writes form i.targets i.blocks ++ block_writes form r bytes) (to i refl refl)
+  more_writes s target writes bytes false (Some i) to some = sym (append-nil (placed_writes form i.targets i.blocks))
 
-module _ (form : BlockForm) (A : Table) (H : History) (opened : IsOpened A) (j : Job) (u n : ℕ) (plain : (t : ℕ) → ArePlain (instant_of A H t)) where
+module _ (form : BlockForm) (A : Table) (H : History) (opened : IsOpened A) (j : Job) (u n : ℕ) (plain : (t : ℕ) → ArePlain A (instant_of A H t)) where
   abbrev o : Option Instant
   o = instant_of A H u
 
@@ -122,7 +122,7 @@ module _ (form : BlockForm) (A : Table) (H : History) (opened : IsOpened A) (j :
       begun_now form j n (t == u) o (λ here. sym (at_other t here) ∙ undrawn A H opened t answers)
   same_writes (Enter t slots) (reply.Entered targets) other may answers =
       changed form (entered targets) (t == u) o
-      (λ i here is. had_none form i targets (requested_none form (instant_of A H t) j i may.0 (plain t) (at_other t here ∙ is)))
+      (λ i here is. had_none form i targets (requested_none form A (instant_of A H t) j i may.0 (plain t) (at_other t here ∙ is)))
   same_writes (Finish t checkpoint) (reply.Completed v) other may answers = changed form (completed n) (t == u) o (λ i here is. refl)
   same_writes (Abandon t) reply.Done other may answers = changed form abandoned (t == u) o (λ i here is. refl)
   same_writes (Enter t slots) reply.Fault other may answers = failed_at t
@@ -138,7 +138,7 @@ module _ (form : BlockForm) (A : Table) (H : History) (opened : IsOpened A) (j :
 
 -- the counted blocks in their order, and the instants in theirs
 abbrev pub InOrder : BlockForm → Table → History → Type 0
-InOrder form A H = (times : List ℕ) → Rises times → flat_map (counted form times) (placed H) ≡ flat_map (writes_of form A H) times
+InOrder form A H = (times : List ℕ) → Rises times → flat_map (counted form times) (placed A H) ≡ flat_map (writes_of form A H) times
 
 none_some : (o : Option Instant) (i : Instant) → o ≡ Some i → o ≡ None → ⊥
 none_some o i is none = let wrong : None ≡ Some i = sym none ∙ is in cc
@@ -146,56 +146,58 @@ none_some o i is none = let wrong : None ≡ Some i = sym none ∙ is in cc
 some_same : (i k : Instant) → Some i ≡ Some k → i ≡ k
 some_same i k e = cc
 
-order_quiet : (form : BlockForm) (A : Table) (H : History) (j : Job) (s : Step) (r : Reply) → placed_by s r ≡ [] → ((u : ℕ) → writes_of form A (entry j s r ∷ H) u ≡ writes_of form A H u)
+order_quiet : (form : BlockForm) (A : Table) (H : History) (j : Job) (s : Step) (r : Reply) → placed_by A H s r ≡ [] → ((u : ℕ) → writes_of form A (entry j s r ∷ H) u ≡ writes_of form A H u)
     → InOrder form A H → InOrder form A (entry j s r ∷ H)
 order_quiet form A H j s r none same was times rises =
-    ap (λ bs. flat_map (counted form times) (placed H ++ bs)) none ∙ ap (flat_map (counted form times)) (append-nil (placed H)) ∙ was times rises
+    ap (λ bs. flat_map (counted form times) (placed A H ++ bs)) none ∙ ap (flat_map (counted form times)) (append-nil (placed A H)) ∙ was times rises
     ∙ sym (same_each (writes_of form A (entry j s r ∷ H)) (writes_of form A H) times same)
 
-pub fresh_opened : (name : List ℕ) → IsOpened (fresh name)
-fresh_opened name t i is = let wrong : None ≡ Some i = is in cc
+pub fresh_opened : (name : List ℕ) (buckets : ℕ) → IsOpened (fresh name buckets)
+fresh_opened name buckets t i is = let wrong : None ≡ Some i = is in cc
 
 -- a block more in an instant
-pub one_block_more : (form : BlockForm) (A : Table) (H : History) (j : Job) (t target writes version at : ℕ) (bytes : List ℕ) → IsAppending A H t target → (u : ℕ)
-    → writes_of form A (entry j (Append t target writes bytes) (reply.Placed version at) ∷ H) u ≡ writes_of form A H u ++ cond (t == u) (block_writes form (Some only) bytes) []
-one_block_more form A H j t target writes version at bytes to u =
-    more_writes form target writes bytes (t == u) (instant_of A H u)
+pub one_block_more : (form : BlockForm) (A : Table) (H : History) (j : Job) (t target writes version at : ℕ) (bytes : List ℕ) (s : Target) → IsAppending A H t target s → (u : ℕ)
+    → writes_of form A (entry j (Append t target writes bytes) (reply.Placed version at) ∷ H) u ≡ writes_of form A H u ++ cond (t == u) (block_writes form (Some s) bytes) []
+one_block_more form A H j t target writes version at bytes s to u =
+    more_writes form s target writes bytes (t == u) (instant_of A H u)
     (λ i here is. ap (λ (x : Instant). slice_get x.targets target) (some_same i to.i (sym is ∙ ap (instant_of A H) (sym (number t u here)) ∙ to.is)) ∙ to.to)
     (λ here none. none_some (instant_of A H t) to.i to.is (ap (instant_of A H) (number t u here) ∙ none))
 
-module _ (form : BlockForm) (work : Work) (name : List ℕ) (H : History) (legal : IsLegal work (fresh name) H) (was : InOrder form (fresh name) H) (j : Job) where
+module _ (form : BlockForm) (work : Work) (name : List ℕ) (buckets : ℕ) (H : History) (legal : IsLegal work (fresh name buckets) H) (was : InOrder form (fresh name buckets) H) (j : Job) where
   abbrev A : Table
-  A = fresh name
+  A = fresh name buckets
 
-  module _ (t target writes version at : ℕ) (bytes : List ℕ) (to : IsAppending A H t target) (last : t ≡ greatest_time A H) where
+  module _ (t target writes version at : ℕ) (bytes : List ℕ) (s : Target) (to : IsAppending A H t target s) (last : t ≡ greatest_time A H) where
     abbrev K : History
     K = entry j (Append t target writes bytes) (reply.Placed version at) ∷ H
 
     abbrev b : PlacedBlock
-    b = record { t = t; bytes = bytes }
+    b = record { t = t; to = s; bytes = bytes }
 
     none_later : (u : ℕ) → t < u → writes_of form A H u ≡ []
-    none_later u above = ap (instant_writes form) (undrawn A H (fresh_opened name) u (omega (arith, above, last)))
+    none_later u above = ap (instant_writes form) (undrawn A H (fresh_opened name buckets) u (omega (arith, above, last)))
 
     order_placed : InOrder form A K
     order_placed times rises =
-        flat_map-append (counted form times) (placed H) (b ∷ []) ∙ ap (λ ys. flat_map (counted form times) (placed H) ++ ys) (append-nil (counted form times b))
+        ap (λ (o : Option Target). flat_map (counted form times) (placed A H ++ placed_at t bytes o)) (goes_there A H t target s to)
+        ∙ flat_map-append (counted form times) (placed A H) (b ∷ []) ∙ ap (λ ys. flat_map (counted form times) (placed A H) ++ ys) (append-nil (counted form times b))
         ∙ ap (λ ys. ys ++ counted form times b) (was times rises)
-        ∙ sym (last_more (writes_of form A H) t (block_writes form (Some only) bytes) none_later times rises)
-        ∙ sym (same_each (writes_of form A K) (λ u. writes_of form A H u ++ cond (t == u) (block_writes form (Some only) bytes) []) times (one_block_more form A H j t target writes version at bytes to))
+        ∙ sym (last_more (writes_of form A H) t (block_writes form (Some s) bytes) none_later times rises)
+        ∙ sym (same_each (writes_of form A K) (λ u. writes_of form A H u ++ cond (t == u) (block_writes form (Some s) bytes) []) times (one_block_more form A H j t target writes version at bytes s to))
 
-  plain : (t : ℕ) → ArePlain (instant_of A H t)
-  plain = instants_plain work name H legal
+  plain : (t : ℕ) → ArePlain A (instant_of A H t)
+  plain = instants_plain work name buckets H legal
 
   same_for : (s : Step) (r : Reply) → IsNoAppend s → May A H j s → Answers A H s r → (u : ℕ) → writes_of form A (entry j s r ∷ H) u ≡ writes_of form A H u
-  same_for s r other may answers u = same_writes form A H (fresh_opened name) j u (completions A H) plain s r other may answers
+  same_for s r other may answers u = same_writes form A H (fresh_opened name buckets) j u (completions A H) plain s r other may answers
 
   order_then : (s : Step) (r : Reply) → May A H j s → Answers A H s r → Allows work j (phase (own j H)) s → IsInTurn H → IsItsTurn j H → InOrder form A (entry j s r ∷ H)
   order_then (Append t target writes bytes) (reply.Placed version at) may answers allowed turn its =
-      order_placed t target writes version at bytes (appending A H j t target (plain t) may) (appends_last work name H j t target writes bytes legal turn its allowed)
+      let to = appending A H j t target (plain t) may in
+      order_placed t target writes version at bytes to.0 to.1 (appends_last work name buckets H j t target writes bytes legal turn its allowed)
   order_then (Append t target writes bytes) reply.Fault may answers allowed turn its =
       order_quiet form A H j (Append t target writes bytes) reply.Fault refl
-      (λ u. failed_writes form A H (fresh_opened name) j u (completions A H) plain t target writes bytes) was
+      (λ u. failed_writes form A H (fresh_opened name buckets) j u (completions A H) plain t target writes bytes) was
   order_then (Append t target writes bytes) _ may answers allowed turn its = absurd answers
   order_then Begin r may answers allowed turn its = order_quiet form A H j Begin r refl (same_for Begin r tt may answers) was
   order_then (Enter t slots) r may answers allowed turn its = order_quiet form A H j (Enter t slots) r refl (same_for (Enter t slots) r tt may answers) was
@@ -206,11 +208,11 @@ module _ (form : BlockForm) (work : Work) (name : List ℕ) (H : History) (legal
       order_quiet form A H j (Read from number_of offset len) r refl (same_for (Read from number_of offset len) r tt may answers) was
   order_then (Abandon t) r may answers allowed turn its = order_quiet form A H j (Abandon t) r refl (same_for (Abandon t) r tt may answers) was
 
-in_order_first : (form : BlockForm) (name : List ℕ) (times : List ℕ) → [] ≡ flat_map (writes_of form (fresh name) []) times
-in_order_first form name [] = refl
-in_order_first form name (u ∷ us) = in_order_first form name us
+in_order_first : (form : BlockForm) (name : List ℕ) (buckets : ℕ) (times : List ℕ) → [] ≡ flat_map (writes_of form (fresh name buckets) []) times
+in_order_first form name buckets [] = refl
+in_order_first form name buckets (u ∷ us) = in_order_first form name buckets us
 
-pub in_order : (form : BlockForm) (work : Work) (name : List ℕ) (H : History) → IsLegal work (fresh name) H → IsInTurn H → InOrder form (fresh name) H
-in_order form work name [] legal turn = λ times rises. in_order_first form name times
-in_order form work name (e ∷ H) legal turn =
-    order_then form work name H legal.0 (in_order form work name H legal.0 turn.1) e.job e.step e.reply legal.1.may legal.1.answers legal.2 turn.1 turn.0
+pub in_order : (form : BlockForm) (work : Work) (name : List ℕ) (buckets : ℕ) (H : History) → IsLegal work (fresh name buckets) H → IsInTurn H → InOrder form (fresh name buckets) H
+in_order form work name buckets [] legal turn = λ times rises. in_order_first form name buckets times
+in_order form work name buckets (e ∷ H) legal turn =
+    order_then form work name buckets H legal.0 (in_order form work name buckets H legal.0 turn.1) e.job e.step e.reply legal.1.may legal.1.answers legal.2 turn.1 turn.0

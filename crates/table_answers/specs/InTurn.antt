@@ -1,5 +1,5 @@
 -- Jobs that come one after another, as in one lane.
-use Rattle.std.specs.Prelude.{◌≡◌, ◌⊎◌, List, [], ◌∷◌, ◌++◌, slice_get, IsSomeAnd}
+use Rattle.std.specs.Prelude.{◌≡◌, ◌⊎◌, true, List, [], ◌∷◌, ◌++◌, slice_get, IsSomeAnd}
 use Rattle.std.specs.List.{AllByRecursion}
 use Rattle.hudi_base.specs.declared.file_group.Target.{Target}
 use Rattle.payload_merge.specs.declared.row.Row.{Row}
@@ -8,6 +8,7 @@ use Rattle.table_history.specs.declared.entry.Entry.{Entry}
 use Rattle.table_history.specs.declared.job.Job.{Job}
 use Rattle.table_history.specs.declared.step.Step.{Step}
 use Rattle.table_history.specs.declared.step.Step.TheVariants.{Append}
+use Rattle.upsert_writer.specs.BatchRows.{is_in_group}
 use Rattle.upsert_writer.specs.Blocks.{BlockForm, HasRows}
 use Rattle.upsert_writer.specs.WriterSteps.{targets_given}
 
@@ -21,10 +22,11 @@ abbrev pub IsInTurn : History → Type 0
 IsInTurn [] = Unit {0}
 IsInTurn (e ∷ H) = IsItsTurn e.job H × IsInTurn H
 
--- an append carries a block of some rows for its target
+-- an append carries a block of some rows for its target, which lie in the target's group
 abbrev pub CarriesRows : BlockForm → List Target → Step → Type 0
 CarriesRows form targets (Append t target writes bytes) =
-    IsSomeAnd (slice_get targets target) (λ s. (rows : List Row) × HasRows form rows t s.group writes bytes)
+    IsSomeAnd (slice_get targets target)
+    (λ s. (rows : List Row) × HasRows form rows t s.group writes bytes × AllByRecursion (λ row. is_in_group s.group row ≡ true) rows)
 CarriesRows form targets step = Unit {0}
 
 -- each append of the history does, placed or failed

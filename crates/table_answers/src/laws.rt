@@ -3,6 +3,7 @@ ghost use Rattle.std.specs.Prelude.{◌≡◌, ℕ, true, List, [], ◌++◌, ma
 ghost use Rattle.std.specs.List.{AllByRecursion};
 ghost use Rattle.hudi_base.specs.Files.{FileMap};
 ghost use Rattle.hudi_base.specs.declared.file_group.GroupRef.{GroupRef};
+ghost use Rattle.key_index.specs.Tiling.{IsBuckets};
 ghost use Rattle.payload_merge.specs.declared.row.Row.{Row};
 ghost use Rattle.payload_merge.specs.declared.row.Write.TheVariants.{Put};
 ghost use Rattle.table_board.specs.HonestRuns.{IsUndamaged};
@@ -12,10 +13,10 @@ ghost use Rattle.table_history.specs.Answers.{is_completed};
 ghost use Rattle.table_history.specs.Histories.{History};
 ghost use Rattle.table_history.specs.JobLaw.{IsLegal};
 ghost use Rattle.table_history.specs.Tables.{Table, fresh};
+ghost use Rattle.table_history.specs.Targets.{is_live};
 ghost use Rattle.table_history.specs.declared.entry.Entry.{Entry};
 ghost use Rattle.table_history.specs.declared.job.Job.{Job};
 ghost use Rattle.table_images.specs.Blocks.{work_of};
-ghost use Rattle.table_images.specs.Numbers.{IsLive};
 ghost use Rattle.table_images.specs.Runs.{IsRun, Run, history_of};
 ghost use Rattle.table_jobs.specs.Replies.{IsWriterReply};
 ghost use Rattle.table_query.specs.Answers.{IsQueryReply};
@@ -24,7 +25,7 @@ ghost use Rattle.upsert_writer.specs.BatchRows.{is_in_group, rows_from};
 ghost use Rattle.upsert_writer.specs.Blocks.{BlockForm};
 ghost use Rattle.upsert_writer.specs.WriterSteps.{WritesBatch};
 ghost use Rattle.table_answers.specs.InTurn.{CarriesForm, IsInTurn, IsMadeBy};
-ghost use Rattle.table_answers.specs.InstantWrites.{writes_of};
+ghost use Rattle.table_answers.specs.InstantWrites.{WritesGroups, writes_of};
 ghost use Rattle.table_answers.specs.NamedRuns.{AllNamesFit};
 ghost use Rattle.table_answers.specs.Snapshots.{AnswersSnapshot};
 
@@ -65,36 +66,43 @@ pub fn beginnings_are_legal<W: Work>()
 /// up to the one that it pinned. So it is on a table that began without instants, where jobs came in turn, each append
 /// carried a block of the form, and no file was damaged.
 pub fn snapshots_are_folds<W: Work>()
-    ensures { (form : BlockForm) (before after : History) (job : Job) (mine : List Entry) (at : Option ℕ)
-        (given : JobReply) → IsMadeBy job before after mine
-        → IsLegal (work_of W.asks W.holds) (fresh form.table) after → AllNamesFit (fresh form.table) before
+    ensures { (form : BlockForm) (buckets : ℕ) (before after : History) (job : Job) (mine : List Entry) (at : Option ℕ)
+        (given : JobReply) → IsBuckets buckets → IsMadeBy job before after mine
+        → IsLegal (work_of W.asks W.holds) (fresh form.table buckets) after
+        → AllNamesFit (fresh form.table buckets) before
         → IsInTurn before → CarriesForm form before → AllByRecursion IsUndamaged mine
         → IsQueryReply (record { rows = form.reading; table = form.table }) at mine given
-        → AnswersSnapshot form (fresh form.table) before at given }
+        → AnswersSnapshot form (fresh form.table buckets) before at given }
 {}
 
-/// What a committed writer's instant wrote, where all rows of its batch lie in one live group: puts of them all, in
-/// their order, with the instant and their places. The instant is completed then.
+/// What a committed writer's instant wrote: group by group the puts of those rows of its batch that lie in the group,
+/// in their order, with the instant and their places. Where all rows lie in one live group, these are the puts of them
+/// all. The instant is completed then.
 pub fn committed_batches<W: Work>()
-    ensures wrote { (form : BlockForm) (rows : List Row) (before after : History) (job : Job) (mine : List Entry)
-        (t : ℕ) (group : GroupRef) → IsMadeBy job before after mine
-        → IsLegal (work_of W.asks W.holds) (fresh form.table) after → WritesBatch form rows mine
-        → IsWriterReply mine (Committed t) → IsLive (fresh form.table) group
+    ensures groups { (form : BlockForm) (buckets : ℕ) (rows : List Row) (before after : History) (job : Job)
+        (mine : List Entry) (t : ℕ) → IsMadeBy job before after mine
+        → IsLegal (work_of W.asks W.holds) (fresh form.table buckets) after → WritesBatch form rows mine
+        → IsWriterReply mine (Committed t)
+        → WritesGroups rows t (fresh form.table buckets) (writes_of form (fresh form.table buckets) after t) }
+    ensures wrote { (form : BlockForm) (buckets : ℕ) (rows : List Row) (before after : History) (job : Job)
+        (mine : List Entry) (t : ℕ) (group : GroupRef) → IsBuckets buckets → IsMadeBy job before after mine
+        → IsLegal (work_of W.asks W.holds) (fresh form.table buckets) after → WritesBatch form rows mine
+        → IsWriterReply mine (Committed t) → is_live (fresh form.table buckets) group ≡ true
         → AllByRecursion (λ row. is_in_group group row ≡ true) rows
-        → writes_of form (fresh form.table) after t ≡ map Put (rows_from t 0 rows) }
-    ensures completed { (form : BlockForm) (rows : List Row) (before after : History) (job : Job) (mine : List Entry)
-        (t : ℕ) → IsMadeBy job before after mine
-        → IsLegal (work_of W.asks W.holds) (fresh form.table) after → WritesBatch form rows mine
-        → IsWriterReply mine (Committed t) → is_completed (fresh form.table) after t ≡ true }
+        → writes_of form (fresh form.table buckets) after t ≡ map Put (rows_from t 0 rows) }
+    ensures completed { (form : BlockForm) (buckets : ℕ) (rows : List Row) (before after : History) (job : Job)
+        (mine : List Entry) (t : ℕ) → IsMadeBy job before after mine
+        → IsLegal (work_of W.asks W.holds) (fresh form.table buckets) after → WritesBatch form rows mine
+        → IsWriterReply mine (Committed t) → is_completed (fresh form.table buckets) after t ≡ true }
 {}
 
 /// A completed instant stays completed, and its writes stay as they are, whatever comes after.
 pub fn completed_instants_stay<W: Work>()
-    ensures completed { (name : List ℕ) (H : History) (t : ℕ) (more : List Entry)
-        → IsLegal (work_of W.asks W.holds) (fresh name) (more ++ H) → is_completed (fresh name) H t ≡ true
-        → is_completed (fresh name) (more ++ H) t ≡ true }
-    ensures wrote { (form : BlockForm) (H : History) (t : ℕ) (more : List Entry)
-        → IsLegal (work_of W.asks W.holds) (fresh form.table) (more ++ H)
-        → is_completed (fresh form.table) H t ≡ true
-        → writes_of form (fresh form.table) (more ++ H) t ≡ writes_of form (fresh form.table) H t }
+    ensures completed { (name : List ℕ) (buckets : ℕ) (H : History) (t : ℕ) (more : List Entry)
+        → IsLegal (work_of W.asks W.holds) (fresh name buckets) (more ++ H)
+        → is_completed (fresh name buckets) H t ≡ true → is_completed (fresh name buckets) (more ++ H) t ≡ true }
+    ensures wrote { (form : BlockForm) (buckets : ℕ) (H : History) (t : ℕ) (more : List Entry)
+        → IsLegal (work_of W.asks W.holds) (fresh form.table buckets) (more ++ H)
+        → is_completed (fresh form.table buckets) H t ≡ true
+        → writes_of form (fresh form.table buckets) (more ++ H) t ≡ writes_of form (fresh form.table buckets) H t }
 {}

@@ -1,5 +1,5 @@
 -- The faults among the entries, and the times that they drew.
-use Rattle.std.proofs.Common.{◌≡◌, ◌≤◌, ◌<◌, ◌+◌, ◌-◌, ◌^◌, ◌⊎◌, inl, inr, ℕ, Bool, true, false, min, List, ◌∷◌, refl, sym, subst, arith}
+use Rattle.std.proofs.Common.{◌≡◌, ◌≤◌, ◌<◌, ◌+◌, ◌-◌, ◌^◌, ◌⊎◌, inl, inr, ℕ, Bool, true, false, List, ◌∷◌, refl, sym, subst, arith}
 use Rattle.std.specs.Prelude.{nat_le, ◌≤ℤ◌, ℤ}
 use Rattle.std.proofs.lemmas.Bool.Decides.{nat_tests}
 use Rattle.hudi_base.specs.Faults.{CountsFault, Rose}
@@ -57,25 +57,25 @@ pub board_same : (work : Work) (c d : Control) (j k : JournalState) (first m n :
     → ((A : Table) (H : History) → IsControl A H c → IsControl A H d) → k.entries ≡ j.entries → k.owed ≡ j.owed → j.room ≤ k.room → m ≤ n
     → most ≤ℤ more → IsBoard work d k first n more
 board_same work c d j k first m n most more is tables entries owed room le later =
-    let kept : Keeps work (fresh c.table) d k = kept_same work (fresh c.table) c d j k is.keeps tables entries owed room in
+    let kept : Keeps work (fresh c.table c.buckets) d k = kept_same work (fresh c.table c.buckets) c d j k is.keeps tables entries owed room in
     record {
-      keeps = renamed work c.table d k kept;
+      keeps = renamed work c.table c.buckets d k kept;
       faults = let P : History → Type 0 = λ H. FaultsCounted first H n in subst P (sym entries) (rises first m n (faults_among j.entries) le is.faults);
       drawn =
-          let P : History → Type 0 = λ H. DrawnTimes (fresh c.table) more H in
-          let Q : List ℕ → Type 0 = λ name. DrawnTimes (fresh name) more k.entries in
-          subst Q (sym kept.tables.name) (subst P (sym entries) (times_later (fresh c.table) most more j.entries later is.drawn));
+          let P : History → Type 0 = λ H. DrawnTimes (fresh c.table c.buckets) more H in
+          let Q : Table → Type 0 = λ A. DrawnTimes A more k.entries in
+          subst Q (λ i. fresh (sym kept.tables.name i) (sym kept.tables.buckets i)) (subst P (sym entries) (times_later (fresh c.table c.buckets) most more j.entries later is.drawn));
     }
 
 -- one entry more
-pub board_more : (work : Work) (name : List ℕ) (d : Control) (H : History) (k : JournalState) (first m n : ℕ) (most : ℤ) (e : Entry) → Keeps work (fresh name) d k
-    → FaultsCounted first H m → DrawnTimes (fresh name) most H → k.entries ≡ e ∷ H → CountsFault m n (e.reply ≡ reply.Fault)
-    → DrawsTime (fresh name) most H e.reply → IsBoard work d k first n most
-board_more work name d H k first m n most e keeps before drawn entries counted draws = record {
-  keeps = renamed work name d k keeps;
+pub board_more : (work : Work) (name : List ℕ) (buckets : ℕ) (d : Control) (H : History) (k : JournalState) (first m n : ℕ) (most : ℤ) (e : Entry) → Keeps work (fresh name buckets) d k
+    → FaultsCounted first H m → DrawnTimes (fresh name buckets) most H → k.entries ≡ e ∷ H → CountsFault m n (e.reply ≡ reply.Fault)
+    → DrawsTime (fresh name buckets) most H e.reply → IsBoard work d k first n most
+board_more work name buckets d H k first m n most e keeps before drawn entries counted draws = record {
+  keeps = renamed work name buckets d k keeps;
   faults = let P : History → Type 0 = λ H. FaultsCounted first H n in subst P (sym entries) (faults_after first m n e.job e.step e.reply H counted before);
   drawn =
-      let P : History → Type 0 = λ H. DrawnTimes (fresh name) most H in
-      let Q : List ℕ → Type 0 = λ name. DrawnTimes (fresh name) most k.entries in
-      subst Q (sym keeps.tables.name) (subst P (sym entries) (drawn, draws));
+      let P : History → Type 0 = λ H. DrawnTimes (fresh name buckets) most H in
+      let Q : Table → Type 0 = λ A. DrawnTimes A most k.entries in
+      subst Q (λ i. fresh (sym keeps.tables.name i) (sym keeps.tables.buckets i)) (subst P (sym entries) (drawn, draws));
 }

@@ -46,9 +46,9 @@ drawn_is most (negsuc n) g t low le is = record { above = is_above g t _ is; nex
 rises_to : (f g d : ℕ) → f ≤ g → f ≤ max g d
 rises_to f g d low = omega arith
 
-pub greatest_is_late : (name : List ℕ) (H : History) → first_time ≤ greatest_time (fresh name) H
-greatest_is_late name [] = omega arith
-greatest_is_late name (e ∷ H) = rises_to first_time (greatest_time (fresh name) H) (time_drawn e.reply) (greatest_is_late name H)
+pub greatest_is_late : (name : List ℕ) (buckets : ℕ) (H : History) → first_time ≤ greatest_time (fresh name buckets) H
+greatest_is_late name buckets [] = omega arith
+greatest_is_late name buckets (e ∷ H) = rises_to first_time (greatest_time (fresh name buckets) H) (time_drawn e.reply) (greatest_is_late name buckets H)
 
 -- ---- the clock goes on
 
@@ -88,16 +88,16 @@ draws_shown A H (Read from file at len) (reply.Began t) now clock fits shows dra
 draws_shown A H (Abandon u) (reply.Began t) now clock fits shows draws = absurd fits
 draws_shown A H s _ now clock fits shows draws = tt
 
-pub time_drawn_at : (name : List ℕ) (H : History) (s : Step) (r : Reply) (now : ℤ) (clock : ClockState) → IsReplyOf s r → Shows s now clock
-    → DrawsAt (fresh name) H now r → DrawsTime (fresh name) clock.most H r
-time_drawn_at name H Begin (reply.Began t) now clock fits shows draws =
-    drawn_is clock.most now (greatest_time (fresh name) H) t (greatest_is_late name H) shows.1 draws
-time_drawn_at name H (Enter u slots) (reply.Began t) now clock fits shows draws = absurd fits
-time_drawn_at name H (Append u target writes bytes) (reply.Began t) now clock fits shows draws = absurd fits
-time_drawn_at name H (Finish u checkpoint) (reply.Began t) now clock fits shows draws = absurd fits
-time_drawn_at name H (Pin None bases_only) (reply.Began t) now clock fits shows draws = absurd fits
-time_drawn_at name H (Pin (Some u) bases_only) (reply.Began t) now clock fits shows draws = absurd fits
-time_drawn_at name H (Unpin pin) (reply.Began t) now clock fits shows draws = absurd fits
-time_drawn_at name H (Read from file at len) (reply.Began t) now clock fits shows draws = absurd fits
-time_drawn_at name H (Abandon u) (reply.Began t) now clock fits shows draws = absurd fits
-time_drawn_at name H s _ now clock fits shows draws = tt
+pub time_drawn_at : (name : List ℕ) (buckets : ℕ) (H : History) (s : Step) (r : Reply) (now : ℤ) (clock : ClockState) → IsReplyOf s r → Shows s now clock
+    → DrawsAt (fresh name buckets) H now r → DrawsTime (fresh name buckets) clock.most H r
+time_drawn_at name buckets H Begin (reply.Began t) now clock fits shows draws =
+    drawn_is clock.most now (greatest_time (fresh name buckets) H) t (greatest_is_late name buckets H) shows.1 draws
+time_drawn_at name buckets H (Enter u slots) (reply.Began t) now clock fits shows draws = absurd fits
+time_drawn_at name buckets H (Append u target writes bytes) (reply.Began t) now clock fits shows draws = absurd fits
+time_drawn_at name buckets H (Finish u checkpoint) (reply.Began t) now clock fits shows draws = absurd fits
+time_drawn_at name buckets H (Pin None bases_only) (reply.Began t) now clock fits shows draws = absurd fits
+time_drawn_at name buckets H (Pin (Some u) bases_only) (reply.Began t) now clock fits shows draws = absurd fits
+time_drawn_at name buckets H (Unpin pin) (reply.Began t) now clock fits shows draws = absurd fits
+time_drawn_at name buckets H (Read from file at len) (reply.Began t) now clock fits shows draws = absurd fits
+time_drawn_at name buckets H (Abandon u) (reply.Began t) now clock fits shows draws = absurd fits
+time_drawn_at name buckets H s _ now clock fits shows draws = tt

@@ -21,7 +21,7 @@ use Rattle.table_board.proofs.Knowing.{same_phase}
 use Rattle.table_board.proofs.Owing.{owed_le, owed_after_le, owes_one}
 use Rattle.table_board.proofs.Changing.{changes}
 use Rattle.table_board.proofs.Replying.{reply_answers, reply_fits, asked_length}
-use Rattle.table_board.specs.Boards.{Keeps, BoardKeeps}
+use Rattle.table_board.specs.Boards.{Keeps, BoardKeeps, Origin}
 use Rattle.table_board.specs.Journals.{JournalState}
 use Rattle.table_board.specs.KnownEntries.{known_reply, known_entry, known_entries}
 use Rattle.table_board.specs.Outcomes.{MayEnd, Leaves, Performs, HasAskedLength, reply_after}
@@ -30,9 +30,14 @@ use Rattle.table_board.specs.Owed.{owed_steps, owed_after}
 use Rattle.table_board.specs.declared.acting.Outcome.{Outcome}
 use Rattle.table_board.specs.declared.acting.Outcome.TheVariants.{Memory}
 
+-- an origin of these parts
+abbrev pub origin_of : List ℕ → ℕ → ℕ → ℕ → Origin
+origin_of name buckets faults done = record { name = name; buckets = buckets; faults = faults; done = done }
+
 -- the tables of another state of the control are of the same table
-pub renamed : (work : Work) (name : List ℕ) (c : Control) (j : JournalState) → Keeps work (fresh name) c j → BoardKeeps work c j
-renamed work name c j keeps = let P : List ℕ → Type 0 = λ n. Keeps work (fresh n) c j in subst P (sym keeps.tables.name) keeps
+pub renamed : (work : Work) (name : List ℕ) (buckets : ℕ) (c : Control) (j : JournalState) → Keeps work (fresh name buckets) c j → BoardKeeps work c j
+renamed work name buckets c j keeps =
+    let P : Table → Type 0 = λ A. Keeps work A c j in subst P (λ i. fresh (sym keeps.tables.name i) (sym keeps.tables.buckets i)) keeps
 
 -- a job that keeps its law may ask the machine
 pub may_of : (work : Work) (A : Table) (c : Control) (j : JournalState) (job : Job) (s : Step) → Keeps work A c j
@@ -46,10 +51,10 @@ may_of work A c j job s keeps allows =
 pub asked_of : (work : Work) (c : Control) (j : JournalState) (job : Job) (s : Step) → BoardKeeps work c j
     → Allows work job (phase (own job j.entries)) s → IsAsked c job s
 asked_of work c j job s keeps allows = record {
-  table = fresh c.table;
-  history = known_entries (fresh c.table) j.entries;
+  table = fresh c.table c.buckets;
+  history = known_entries (fresh c.table c.buckets) j.entries;
   tables = keeps.tables;
-  may = may_of work (fresh c.table) c j job s keeps allows;
+  may = may_of work (fresh c.table c.buckets) c j job s keeps allows;
 }
 
 -- room that was made changes nothing else

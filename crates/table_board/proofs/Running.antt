@@ -4,24 +4,23 @@ use Rattle.std.specs.Prelude.{IfSome, IsSome, slice_get}
 use Rattle.std.specs.Int.Signed.{≤ℤ_refl}
 use Rattle.std.proofs.lemmas.List.{length-take-le, take-append-le}
 use Rattle.std.proofs.Math.Seq.{take-length}
-use Rattle.hudi_base.specs.Files.{FileMap, IsImage, IsReplay, Told, after, changed, changed_all}
+use Rattle.hudi_base.specs.Files.{FileMap, IsImage, IsReplay, Told, changed, changed_all}
 use Rattle.hudi_base.specs.InstantTime.{IsTime}
 use Rattle.hudi_base.specs.Store.{IsLeftBy, StoreState}
-use Rattle.hudi_base.specs.declared.file_group.GroupRef.{GroupRef}
 use Rattle.hudi_base.specs.declared.file_group.Target.{Target}
 use Rattle.hudi_base.specs.declared.operation.Operation.{Operation}
 use Rattle.hudi_base.specs.declared.operation.Operation.TheVariants.{Append}
 use Rattle.file_names.specs.FileName.{IsGroup, IsNamed}
-use Rattle.table_core.specs.ControlTables.{HasRoomFor, HasSlice, IsControl, IsLeaving, slice_in}
+use Rattle.key_index.proofs.FirstTiles.{first-is}
+use Rattle.table_core.specs.ControlTables.{HasRoomFor, HasSlice, IsControl, IsLeaving}
 use Rattle.table_core.specs.declared.control.Control.{Control}
 use Rattle.table_history.specs.After.{after_history}
 use Rattle.table_history.specs.Answers.{IsNext, May}
 use Rattle.table_history.specs.Histories.{History, own}
 use Rattle.table_history.specs.JobLaw.{Allows, IsReplyOf, Work, phase}
-use Rattle.table_history.specs.Logs.{attempt_in_use, attempts, is_unused, opened_at, target_at, version_in_use}
+use Rattle.table_history.specs.Logs.{attempt_in_use, attempts, is_unused, opened_at}
 use Rattle.table_history.specs.Operations.{Decides, operation}
 use Rattle.table_history.specs.Tables.{Table, fresh}
-use Rattle.table_history.specs.Targets.{one_group, target_of_group}
 use Rattle.table_history.specs.declared.entry.Entry.{Entry}
 use Rattle.table_history.specs.declared.job.Job.{Job}
 use Rattle.table_history.specs.declared.operation.Decision.{Decision}
@@ -215,25 +214,27 @@ in_use_le A H s = by (is_unused A H s)
 apart : (a b : ℕ) → a < b → b ≡ a → ⊥
 apart a b less same = omega (arith, less, same)
 
-one_group_named : IsGroup one_group
-one_group_named = record {
-  partition = record { filled = lit≤ tt; short = lit≤ tt; seen = apart 46 120 (lit< tt); bytes = refl };
-  lo = lit< tt;
-  hi = lit< tt;
-  born = (lit≤ tt, lit≤ tt);
-}
+named_group : (A : Table) (H : History) (c : Control) (s : Target) → IsControl A H c → IsCurrent (after_history A H) s → IsGroup s.group
+named_group A H c s tables current =
+    let first = first-is A.buckets s.group tables.fit current.live in
+    record {
+      partition = current.partition;
+      lo = first.lo;
+      hi = first.hi;
+      born = subst IsTime (sym first.born) (lit≤ tt, lit≤ tt);
+    }
 
 named_in : (A : Table) (H : History) (c : Control) (s : Target) (block : ℕ) → IsControl A H c → A.session < 2 ^ 64 → IsCurrent (after_history A H) s → HasSlice c block (Some s) → c.attempts + 1 < 2 ^ 64
     → IsNamed (log_in_use A H s)
 named_in A H c s block tables session current room tries =
-    let group : s.group ≡ one_group = current.live in
+    let group = named_group A H c s tables current in
     let version = room.1.version in
     let same = (tables.slices s).version in
     let all = tables.attempts in
     let le = in_use_le A H s in
     record {
-      of_group = subst IsGroup (sym group) one_group_named;
-      within = subst IsTime (sym (current.slice ∙ ap (λ (g : GroupRef). (target_of_group g).slice) group)) (lit≤ tt, lit≤ tt);
+      of_group = group;
+      within = subst IsTime (sym current.slice) group.born;
       counted = omega arith;
       fits = omega (arith, version, same);
       made_by = record { session = session; attempt = omega (arith, tries, all, le) };
@@ -316,13 +317,13 @@ left_more work A H j _ old leaves next law files os runs = absurd leaves
 -- ---- the board's functions
 
 -- a step that was decided and done
-pub acted_on : (work : Work) (name : List ℕ) (c c1 c2 : Control) (j j2 : JournalState) (job : Job) (s : Step) (now : ℤ) (d : Decision) (o : Outcome) (r : Reply) (done : ℕ) (before honest : Type 0)
-    (old new : StoreState) → Keeps work (fresh name) c j → Keeps work (fresh name) c2 j2 → Allows work job (phase (own job j.entries)) s → Decides (fresh name) (known_entries (fresh name) j.entries) s now d
+pub acted_on : (work : Work) (name : List ℕ) (buckets : ℕ) (c c1 c2 : Control) (j j2 : JournalState) (job : Job) (s : Step) (now : ℤ) (d : Decision) (o : Outcome) (r : Reply) (done : ℕ) (before honest : Type 0)
+    (old new : StoreState) → Keeps work (fresh name buckets) c j → Keeps work (fresh name buckets) c2 j2 → Allows work job (phase (own job j.entries)) s → Decides (fresh name buckets) (known_entries (fresh name buckets) j.entries) s now d
     → Performs before d.op old new o → o ≢ Memory → r ≡ reply_after o d.op d.reply → ((A : Table) (H : History) → IsControl A H c → IsControl A H c1) → HasRoomFor c1 s d.reply → HasTime d.reply
-    → (honest → before) → KeepsRun work (fresh name) done before old.told j.entries → j2.entries ≡ record { job = job; step = s; reply = r } ∷ j.entries
-    → KeepsRun work (fresh c2.table) done honest new.told j2.entries
-acted_on work name c c1 c2 j j2 job s now d o r done before honest old new keeps keeps2 law decides performs known is tables room time same was entries =
-    let A : Table = fresh name in
+    → (honest → before) → KeepsRun work (fresh name buckets) done before old.told j.entries → j2.entries ≡ record { job = job; step = s; reply = r } ∷ j.entries
+    → KeepsRun work (fresh c2.table c2.buckets) done honest new.told j2.entries
+acted_on work name buckets c c1 c2 j j2 job s now d o r done before honest old new keeps keeps2 law decides performs known is tables room time same was entries =
+    let A : Table = fresh name buckets in
     let H : History = j.entries in
     let e : Entry = record { job = job; step = s; reply = r } in
     let next : IsNext A (known_entries A H) (known_entry A (known_entries A H) e) =
@@ -331,7 +332,7 @@ acted_on work name c c1 c2 j j2 job s now d o r done before honest old new keeps
     let more : KeepsRun work A done honest new.told (e ∷ H) =
     run_more work A done before honest old.told new.told H e same was (λ h. is_done before d.op old.told new.told o h performs.leaves)
     (acted_more work A H c1 job s now d o r before old new (λ K at. tables A K (subst (λ (K : History). IsControl A K c) (sym at) keeps.tables)) (lit< tt) room time decides performs known is next law) in
-    subst (λ (n : List ℕ). KeepsRun work (fresh n) done honest new.told j2.entries) (sym keeps2.tables.name)
+    subst (λ (B : Table). KeepsRun work B done honest new.told j2.entries) (λ i. fresh (sym keeps2.tables.name i) (sym keeps2.tables.buckets i))
     (subst (λ (K : History). KeepsRun work A done honest new.told K) (sym entries) more)
 
 -- no entry more, and the store did nothing
@@ -356,27 +357,28 @@ pub still_holds : (work : Work) (c c1 : Control) (j j1 : JournalState) (first do
     → ((A : Table) (H : History) → IsControl A H c → IsControl A H c1) → j1.entries ≡ j.entries → j1.owed ≡ j.owed → j.room ≤ j1.room → old.faults ≤ new.faults → new.told ≡ old.told → (honest → before)
     → BoardHolds work c1 j1 first done honest new most
 still_holds work c c1 j j1 first done before honest old new most holds tables entries owed room rose told same =
-    let name : c1.table ≡ c.table = (tables (fresh c.table) (known_entries (fresh c.table) j.entries) holds.always.keeps.tables).name in
+    let now = tables (fresh c.table c.buckets) (known_entries (fresh c.table c.buckets) j.entries) holds.always.keeps.tables in
+    let same_table : fresh c.table c.buckets ≡ fresh c1.table c1.buckets = λ i. fresh (sym now.name i) (sym now.buckets i) in
     record {
       always = board_same work c c1 j j1 first old.faults new.faults most most holds.always tables entries owed room rose (≤ℤ_refl most);
       replies = subst (AllByRecursion HasOwnReply) (sym entries) holds.replies;
       on_honest =
-          subst (λ (n : List ℕ). KeepsRun work (fresh n) done honest new.told j1.entries) (sym name)
-          (subst (λ (K : History). KeepsRun work (fresh c.table) done honest new.told K) (sym entries)
-          (run_same work (fresh c.table) done before honest old.told new.told j.entries same holds.on_honest told));
+          subst (λ (B : Table). KeepsRun work B done honest new.told j1.entries) same_table
+          (subst (λ (K : History). KeepsRun work (fresh c.table c.buckets) done honest new.told K) (sym entries)
+          (run_same work (fresh c.table c.buckets) done before honest old.told new.told j.entries same holds.on_honest told));
     }
 
 -- a step by which a job leaves
-pub left_on : (work : Work) (name : List ℕ) (c c2 : Control) (j j2 : JournalState) (job : Job) (s : Step) (done : ℕ) (honest : Type 0) (told : Told) → Keeps work (fresh name) c j
-    → Keeps work (fresh name) c2 j2 → Allows work job (phase (own job j.entries)) s → IsLeaving s → KeepsRun work (fresh name) done honest told j.entries
-    → j2.entries ≡ record { job = job; step = s; reply = reply.Done } ∷ j.entries → KeepsRun work (fresh c2.table) done honest told j2.entries
-left_on work name c c2 j j2 job s done honest told keeps keeps2 law leaves was entries =
-    let A : Table = fresh name in
+pub left_on : (work : Work) (name : List ℕ) (buckets : ℕ) (c c2 : Control) (j j2 : JournalState) (job : Job) (s : Step) (done : ℕ) (honest : Type 0) (told : Told) → Keeps work (fresh name buckets) c j
+    → Keeps work (fresh name buckets) c2 j2 → Allows work job (phase (own job j.entries)) s → IsLeaving s → KeepsRun work (fresh name buckets) done honest told j.entries
+    → j2.entries ≡ record { job = job; step = s; reply = reply.Done } ∷ j.entries → KeepsRun work (fresh c2.table c2.buckets) done honest told j2.entries
+left_on work name buckets c c2 j j2 job s done honest told keeps keeps2 law leaves was entries =
+    let A : Table = fresh name buckets in
     let H : History = j.entries in
     let more : KeepsRun work A done honest told (record { job = job; step = s; reply = reply.Done } ∷ H) =
     run_more work A done honest honest told told H (record { job = job; step = s; reply = reply.Done }) (λ h. h) was (λ h. record { did = None; told = refl })
     (λ h blocks files os stands opened runs. left_more work A H job s told leaves (left_of work A c j job s keeps law leaves) law files os runs) in
-    subst (λ (n : List ℕ). KeepsRun work (fresh n) done honest told j2.entries) (sym keeps2.tables.name)
+    subst (λ (B : Table). KeepsRun work B done honest told j2.entries) (λ i. fresh (sym keeps2.tables.name i) (sym keeps2.tables.buckets i))
     (subst (λ (K : History). KeepsRun work A done honest told K) (sym entries) more)
 
 -- a step by which a job leaves is done

@@ -53,7 +53,9 @@ quiet_read : (A : Table) (H : History) (control : Control) (j : Job) (from : Rea
     → IsControl A (record { job = j; step = Read from file at len; reply = r } ∷ H) control
 quiet_read A H control j from file at len r is quiet = record {
   opened = is.opened;
+  fit = is.fit;
   name = is.name;
+  buckets = is.buckets;
   session = is.session;
   last = is.last ∙ sym (same_last (greatest_time A H) r quiet);
   completed = is.completed ∙ sym (same_completed A H j (Read from file at len) r quiet);

@@ -66,7 +66,7 @@ pub record BoardHolds (work : Work) (control : Control) (journal : JournalState)
     (store : StoreState) (most : ℤ) : Type 0 where
   pub always : IsBoard work control journal faults store.faults most
   pub replies : AllByRecursion HasOwnReply journal.entries
-  pub on_honest : KeepsRun work (fresh control.table) done honest store.told journal.entries
+  pub on_honest : KeepsRun work (fresh control.table control.buckets) done honest store.told journal.entries
 
 -- ---- what follows
 

@@ -53,7 +53,7 @@ impl<S: Store, C: Clock, W: Work> Model for Board<S, C, W> {
       entries = board.journal.entries;
       store = board.store;
       clock = board.clock;
-      origin = record { name = board.control.table; faults = board.first_faults; done = board.first_done };
+      origin = record { name = board.control.table; buckets = board.control.buckets; faults = board.first_faults; done = board.first_done };
     } };
 
     ghost invariant = { λ board. BoardHolds (record { Asks = W.asks; Holds = W.holds }) board.control board.journal
@@ -79,6 +79,7 @@ impl<S: Store, C: Clock, W: Work> Board<S, C, W> {
         ensures store { result.store ≡ store }
         ensures clock { result.clock ≡ clock }
         ensures name { result.origin.name ≡ control.table }
+        ensures buckets { result.origin.buckets ≡ control.buckets }
         ensures faults { result.origin.faults ≡ (S.state store).faults }
         ensures done { IfSome (S.state store).told.operations (λ operations. result.origin.done ≡ length operations) }
     {

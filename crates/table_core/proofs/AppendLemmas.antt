@@ -151,7 +151,9 @@ placed_taken A H control job t target writes bytes version at tried s slices is 
     let right = numbered A H t target version at s place answers in
     record {
       opened = is.opened;
+      fit = is.fit;
       name = is.name;
+      buckets = is.buckets;
       session = is.session;
       last = is.last ∙ sym (same_last (greatest_time A H) Done tt);
       completed = is.completed;
@@ -181,7 +183,9 @@ failed_taken A H control job t target writes bytes tried s slices is here gives 
     let place = at_control A H control t target s is here in
     record {
       opened = is.opened;
+      fit = is.fit;
       name = is.name;
+      buckets = is.buckets;
       session = is.session;
       last = is.last ∙ sym (same_last (greatest_time A H) Done tt);
       completed = is.completed;

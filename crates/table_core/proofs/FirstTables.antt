@@ -7,11 +7,11 @@ use Rattle.table_core.specs.SliceStates.{SliceState, no_logs}
 use Rattle.table_history.specs.Tables.{fresh}
 use Rattle.table_history.specs.declared.view.Part.{Part}
 
-abbrev none_yet : (name : List ℕ) (s : Target) → IsSlice (fresh name) [] s no_logs
-none_yet name s = record { logs = refl; version = refl; unused = refl; in_use = refl; later = λ v above. refl }
+abbrev none_yet : (name : List ℕ) (buckets : ℕ) (s : Target) → IsSlice (fresh name buckets) [] s no_logs
+none_yet name buckets s = record { logs = refl; version = refl; unused = refl; in_use = refl; later = λ v above. refl }
 
-pub no_slice : (name : List ℕ) (s : Target) (o : Option SliceState) → o ≡ None → IsSlice (fresh name) [] s (unwrap_or o no_logs)
-no_slice name s o none = let P : SliceState → Type 0 = λ slice. IsSlice (fresh name) [] s slice in subst P (sym (ap (λ o. unwrap_or o no_logs) none)) (none_yet name s)
+pub no_slice : (name : List ℕ) (buckets : ℕ) (s : Target) (o : Option SliceState) → o ≡ None → IsSlice (fresh name buckets) [] s (unwrap_or o no_logs)
+no_slice name buckets s o none = let P : SliceState → Type 0 = λ slice. IsSlice (fresh name buckets) [] s slice in subst P (sym (ap (λ o. unwrap_or o no_logs) none)) (none_yet name buckets s)
 
 pub no_part : (file : ℕ) (o : Option (List Part)) → o ≡ None → slice_get (unwrap_or o []) file ≡ None
 no_part file o none = ap (λ (o : Option (List Part)). slice_get (unwrap_or o []) file) none

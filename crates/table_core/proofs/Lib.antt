@@ -5,3 +5,5 @@ pub mod PinLemmas
 pub mod SliceRooms
 pub mod Taken
 pub mod ViewLemmas
+pub mod TileLemmas
+pub mod SeenGroups

@@ -43,7 +43,9 @@ pub pinned_taken : (A : Table) (H : History) (control : Control) (job : Job) (at
     → IsControl A (record { job = job; step = Pin at bases_only; reply = Pinned view } ∷ H) (record control { pins = pins; pins_made = control.pins_made + 1; pinning = left })
 pinned_taken A H control job at bases_only view pins left is files put = record {
   opened = is.opened;
+  fit = is.fit;
   name = is.name;
+  buckets = is.buckets;
   session = is.session;
   last = is.last ∙ sym (same_last (greatest_time A H) Done tt);
   completed = is.completed;
@@ -59,7 +61,9 @@ pub unpinned_taken : (A : Table) (H : History) (control : Control) (job : Job) (
     → IsControl A (record { job = job; step = Unpin pin; reply = Done } ∷ H) (record control { pins = pins })
 unpinned_taken A H control job pin pins is gone = record {
   opened = is.opened;
+  fit = is.fit;
   name = is.name;
+  buckets = is.buckets;
   session = is.session;
   last = is.last ∙ sym (same_last (greatest_time A H) Done tt);
   completed = is.completed;

@@ -90,7 +90,9 @@ pub begun_taken : (A : Table) (H : History) (control : Control) (j : Job) (t : �
     → IsControl A (record { job = j; step = Begin; reply = reply.Began t } ∷ H) (record control { last = t })
 begun_taken A H control j t is above = record {
   opened = is.opened;
+  fit = is.fit;
   name = is.name;
+  buckets = is.buckets;
   session = is.session;
   last = drawn_last (greatest_time A H) t above;
   completed = is.completed;

@@ -1,26 +1,26 @@
 -- What a pin sees by the control tables is its view after the history.
-use Rattle.std.proofs.Common.{◌≡◌, ℕ, ℤ, ◌+◌, List, [], ◌∷◌, ◌++◌, Bool, true, false, cond, Option, Some, None, length, refl, sym, ap, ◌∙◌, append-nil}
-use Rattle.std.specs.Prelude.{nat_le, nat_lt, filter, map, reverse, ◌==◌}
+use Rattle.std.proofs.Common.{◌≡◌, ℕ, ℤ, ◌+◌, List, [], ◌∷◌, ◌++◌, Bool, true, false, cond, Option, Some, None, refl, sym, ap, ◌∙◌, append-nil}
+use Rattle.std.specs.Prelude.{nat_le, filter, reverse, ◌==◌, ◌&&◌}
 use Rattle.std.specs.List.{list_any}
 use Rattle.std.proofs.lemmas.List.{reverse-append, reverse-reverse}
 use Rattle.std.proofs.lemmas.List.Elements.{filter-append}
 use Rattle.std.proofs.lemmas.List.Sorted.{list_any-IsPermutation, IsPermutation-reverse}
-use Rattle.hudi_base.specs.declared.file_group.Target.{Target}
-use Rattle.table_core.specs.ControlTables.{IsControl, slice_in}
-use Rattle.table_core.specs.ViewTables.{IsViewIn, part_named, chain_in, view_groups_in, instant_in, completed_in}
+use Rattle.std.specs.List.Sorted.{IsStrictlySortedBy}
+use Rattle.table_core.specs.ControlTables.{IsControl}
+use Rattle.table_core.specs.ViewTables.{IsViewIn, ArePartsIn, instant_in, completed_in}
 use Rattle.table_core.specs.declared.control.Control.{Control}
+use Rattle.table_core.proofs.SeenGroups.{parts_seen}
 use Rattle.table_history.specs.Answers.{is_completed}
 use Rattle.table_history.specs.Histories.{History}
 use Rattle.table_history.specs.Instants.{completed_instants, greatest}
 use Rattle.table_history.specs.Operations.{Decides}
-use Rattle.table_history.specs.Pins.{IsView, view_groups, chain_at, completed_for, pinned_instant}
+use Rattle.table_history.specs.Pins.{IsView, ArePartsAt, completed_for, pinned_instant}
 use Rattle.table_history.specs.Tables.{Table}
-use Rattle.table_history.specs.Targets.{one_group, target_of_group}
+use Rattle.table_history.specs.Targets.{group_cmp, is_live}
 use Rattle.table_history.specs.declared.operation.Op.TheVariants as op
 use Rattle.table_history.specs.declared.reply.Reply.TheVariants.{Pinned, NotCompleted}
 use Rattle.table_history.specs.declared.step.Step.TheVariants.{Pin}
 use Rattle.table_history.specs.declared.view.GroupParts.{GroupParts}
-use Rattle.table_history.specs.declared.view.Part.{Part}
 use Rattle.table_history.specs.declared.view.View.{View}
 
 -- ---- lists
@@ -45,19 +45,20 @@ earlier_known A H control (Some t) is =
     ap (filter (λ u. nat_le u t)) (sym (reverse-reverse control.completed.items) ∙ ap reverse is.completed)
     ∙ filter-reverse (λ u. nat_le u t) (completed_instants A H)
 
-chain_known : (A : Table) (H : History) (control : Control) (t : ℕ) (bases_only : Bool) → IsControl A H control
-    → chain_in control (target_of_group one_group) bases_only ≡ chain_at A H one_group t bases_only
-chain_known A H control t true is = refl
-chain_known A H control t false is =
-    let s : Target = target_of_group one_group in
-    ap (λ name. map (part_named name s) (reverse (slice_in control s).logs)) is.name
-    ∙ ap (λ logs. map (part_named A.name s) (reverse logs)) (is.slices s).logs
+nothing : (b : Bool) → false ≡ (b && false)
+nothing true = refl
+nothing false = refl
 
-groups_known : (A : Table) (H : History) (control : Control) (t : Option ℕ) (bases_only : Bool) → IsControl A H control
-    → view_groups_in control t bases_only ≡ view_groups A H t bases_only
-groups_known A H control None bases_only is = refl
-groups_known A H control (Some t) bases_only is =
-    ap (λ (parts : List Part). filter (λ (g : GroupParts). nat_lt 0 (length g.parts)) (record { group = one_group; parts = parts } ∷ [])) (chain_known A H control t bases_only is)
+none_sorted : IsStrictlySortedBy group_cmp []
+unfolding IsStrictlySortedBy
+none_sorted = tt
+
+groups_known : (A : Table) (H : History) (control : Control) (t : Option ℕ) (bases_only : Bool) (parts : List GroupParts) → IsControl A H control
+    → ArePartsIn control t bases_only parts → ArePartsAt A H t bases_only parts
+groups_known A H control None bases_only parts is seen = seen
+groups_known A H control (Some t) true parts is seen =
+    record { groups = []; live = record { are = λ g. nothing (is_live A g); order = none_sorted }; are = seen }
+groups_known A H control (Some t) false parts is seen = parts_seen A H control is t seen.1 parts seen.0
 
 instant_known : (A : Table) (H : History) (control : Control) (at : Option ℕ) → IsControl A H control → instant_in control at ≡ pinned_instant A H at
 instant_known A H control None is = ap greatest is.completed
@@ -68,7 +69,7 @@ view_known : (A : Table) (H : History) (control : Control) (at : Option ℕ) (ba
 view_known A H control at bases_only view is seen = record {
   pin = seen.pin ∙ ap (λ n. n + 1) is.pins_made;
   t = seen.t ∙ instant_known A H control at is;
-  groups = seen.groups ∙ groups_known A H control view.t bases_only is;
+  groups = groups_known A H control view.t bases_only view.groups is seen.groups;
   completed = seen.completed ∙ earlier_known A H control view.t is;
 }
 

@@ -2,6 +2,7 @@
 use Rattle.std.specs.Prelude.{◌≡◌, ◌<◌, ◌+◌, ◌^◌, ℕ, Bool, true, false, Option, Some, None, IsSome, List, [], ◌∷◌, length, reverse, unwrap_or, slice_get, vec_len, vec_capacity}
 use Rattle.std.specs.Ordering.{nat_cmp}
 use Rattle.hudi_base.specs.declared.file_group.Target.{Target}
+use Rattle.key_index.specs.Tiling.{IsBuckets}
 use Rattle.table_core.specs.Keys.{target_cmp}
 use Rattle.table_core.specs.Rooms.{found}
 use Rattle.table_core.specs.SliceStates.{SliceState, no_logs, HasBlockRoom}
@@ -70,7 +71,9 @@ pub record IsSlice (A : Table) (H : History) (s : Target) (slice : SliceState) :
 -- The control tables are those of table A after history H.
 pub record IsControl (A : Table) (H : History) (control : Control) : Type 0 where
   pub opened : IsOpened A
+  pub fit : IsBuckets A.buckets
   pub name : control.table ≡ A.name
+  pub buckets : control.buckets ≡ A.buckets
   pub session : control.session ≡ A.session
   pub last : control.last ≡ greatest_time A H
   pub completed : reverse control.completed.items ≡ completed_instants A H

@@ -9,8 +9,8 @@ use Rattle.std.proofs.lemmas.Bool.Decides.{nat_tests}
 use Rattle.std.proofs.lemmas.Map.Text.{is_eq-slice_cmp}
 use Rattle.hudi_base.specs.declared.file_group.GroupRef.{GroupRef}
 use Rattle.hudi_base.specs.declared.file_group.Target.{Target}
-use Rattle.table_history.specs.Targets.{is_group, is_target}
-use Rattle.table_core.specs.Keys.{group_cmp, target_cmp}
+use Rattle.table_history.specs.Targets.{is_group, is_target, group_cmp}
+use Rattle.table_core.specs.Keys.{target_cmp}
 
 pub same_number : (a b : ℕ) → is_eq (nat_cmp a b) ≡ (a == b)
 same_number a b = grind (arith, nat_tests)
@@ -22,7 +22,7 @@ regrouped : (a b c d : Bool) → (a && (b && (c && d))) ≡ (((a && b) && c) && 
 regrouped true b c d = elim b as (λ b. (b && (c && d)) ≡ ((b && c) && d)) [ true ↦ refl | false ↦ refl ]
 regrouped false b c d = refl
 
-same_group : (a b : GroupRef) → is_eq (group_cmp a b) ≡ is_group a b
+pub same_group : (a b : GroupRef) → is_eq (group_cmp a b) ≡ is_group a b
 same_group a b =
     sym (tied_then (slice_cmp nat_cmp a.partition b.partition) _)
     ∙ ap (λ t. is_eq (slice_cmp nat_cmp a.partition b.partition) && t) (sym (tied_then (nat_cmp a.lo b.lo) _)
@@ -46,7 +46,7 @@ both false b h = (h, cc)
 record_of_group : (a b : GroupRef) → a.partition ≡ b.partition → a.lo ≡ b.lo → a.hi ≡ b.hi → a.born ≡ b.born → a ≡ b
 record_of_group a b p l h s = λ i. record { partition = p i; lo = l i; hi = h i; born = s i }
 
-equal_group : (a b : GroupRef) → is_group a b ≡ true → a ≡ b
+pub equal_group : (a b : GroupRef) → is_group a b ≡ true → a ≡ b
 equal_group a b h =
     let last = both _ _ h in
     let more = both _ _ last.0 in

@@ -5,4 +5,5 @@ pub mod Marks
 pub mod Placements
 pub mod Rooms
 pub mod SliceStates
+pub mod TileTables
 pub mod ViewTables

@@ -1,12 +1,18 @@
 -- What a pin sees, by the control tables alone.
-use Rattle.std.specs.Prelude.{◌≡◌, ℕ, ◌+◌, Bool, true, false, nat_le, nat_lt, List, [], ◌∷◌, length, filter, reverse, map, Option, Some, None}
+use Rattle.std.specs.Prelude.{◌≡◌, ℕ, ◌+◌, ◌==◌, ◌&&◌, Bool, true, false, nat_le, nat_lt, List, [], length, filter, reverse, map, Option, Some, None}
+use Rattle.std.specs.BTreeMap.{get}
+use Rattle.std.specs.List.{All}
+use Rattle.std.specs.List.Sorted.{IsStrictlySortedBy}
+use Rattle.std.specs.Map.{keys_of}
 use Rattle.hudi_base.specs.declared.file_group.Target.{Target}
 use Rattle.file_names.specs.FileName.{name_of}
 use Rattle.file_names.specs.declared.file_name.FileName.TheVariants.{Log}
-use Rattle.table_core.specs.ControlTables.{slice_in}
+use Rattle.table_core.specs.Keys.{target_cmp}
+use Rattle.table_core.specs.SliceStates.{SliceState}
+use Rattle.table_core.specs.TileTables.{is_first}
 use Rattle.table_core.specs.declared.control.Control.{Control}
+use Rattle.table_core.specs.declared.rooms.Rooms.{Rooms}
 use Rattle.table_history.specs.Instants.{greatest}
-use Rattle.table_history.specs.Targets.{one_group, target_of_group}
 use Rattle.table_history.specs.declared.log_file.LogFile.{LogFile}
 use Rattle.table_history.specs.declared.view.GroupParts.{GroupParts}
 use Rattle.table_history.specs.declared.view.Part.{Part}
@@ -20,20 +26,27 @@ part_named table s log = record {
   base = false;
 }
 
--- the files of a slice, the least version first
-abbrev pub chain_in : Control → Target → Bool → List Part
-chain_in control s true = []
-chain_in control s false = map (part_named control.table s) (reverse (slice_in control s).logs)
+-- the slice is the current one of a tile and has a log
+abbrev pub is_seen : ℕ → (Target × SliceState) → Bool
+is_seen buckets entry = is_first buckets entry.0.group && ((entry.0.slice == entry.0.group.born) && nat_lt 0 (length entry.1.logs))
 
--- the groups that have a file
-abbrev pub groups_in : Control → Bool → List GroupParts
-groups_in control bases_only =
-    filter (λ g. nat_lt 0 (length g.parts))
-    (record { group = one_group; parts = chain_in control (target_of_group one_group) bases_only } ∷ [])
+-- its group with its files, the least version first
+abbrev pub parts_of_slice : List ℕ → (Target × SliceState) → GroupParts
+parts_of_slice table entry = record { group = entry.0.group; parts = map (part_named table entry.0) (reverse entry.1.logs) }
 
-abbrev pub view_groups_in : Control → Option ℕ → Bool → List GroupParts
-view_groups_in control None bases_only = []
-view_groups_in control (Some t) bases_only = groups_in control bases_only
+abbrev pub groups_among : List ℕ → ℕ → List (Target × SliceState) → List GroupParts
+groups_among table buckets entries = map (parts_of_slice table) (filter (is_seen buckets) entries)
+
+-- the entries of a map stand in order, and each is found at its key
+pub record AreEntries (slices : Rooms Target SliceState) : Type 0 where
+  pub order : IsStrictlySortedBy target_cmp (keys_of slices.slots.entries)
+  pub found : All (λ e. get target_cmp slices.slots e.0 ≡ Some e.1) slices.slots.entries
+
+-- the groups of a view
+abbrev pub ArePartsIn : Control → Option ℕ → Bool → List GroupParts → Type 0
+ArePartsIn control None bases_only parts = parts ≡ []
+ArePartsIn control (Some t) true parts = parts ≡ []
+ArePartsIn control (Some t) false parts = (parts ≡ groups_among control.table control.buckets control.slices.slots.entries) × AreEntries control.slices
 
 abbrev pub instant_in : Control → Option ℕ → Option ℕ
 instant_in control None = greatest (reverse control.completed.items)
@@ -47,5 +60,5 @@ completed_in control (Some t) = filter (λ u. nat_le u t) control.completed.item
 pub record IsViewIn (control : Control) (at : Option ℕ) (bases_only : Bool) (view : View) : Type 0 where
   pub pin : view.pin ≡ control.pins_made + 1
   pub t : view.t ≡ instant_in control at
-  pub groups : view.groups ≡ view_groups_in control view.t bases_only
+  pub groups : ArePartsIn control view.t bases_only view.groups
   pub completed : view.completed ≡ completed_in control view.t

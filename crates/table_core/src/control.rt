@@ -1,11 +1,13 @@
 // The control tables, and their first state.
 ghost use Rattle.std.specs.Prelude.{[]};
+ghost use Rattle.key_index.specs.Tiling.{IsBuckets};
 ghost use Rattle.table_core.specs.ControlTables.{IsControl};
 ghost use Rattle.table_history.specs.Tables.{fresh};
 
 use crate::rooms::Rooms;
 use crate::slice_logs::SliceLogs;
 use hudi_base::{InstantTime, Name, Sequence, Target};
+use key_index::Buckets;
 use std::alloc::Global;
 use table_history::Part;
 
@@ -14,6 +16,7 @@ use table_history::Part;
 #[derive(Drop)]
 pub struct Control {
     pub(crate) table: Name,
+    pub(crate) buckets: Buckets,
     pub(crate) session: u64,
     // The greatest time that the timeline has or had.
     pub(crate) last: InstantTime,
@@ -33,12 +36,15 @@ pub struct Control {
 }
 
 impl Control {
-    /// The control of a new table of this name. It takes no memory.
-    pub fn fresh(alloc: Global, table: Name) -> Control
-        ensures { IsControl (fresh table) [] result }
+    /// The control of a new table of this name, whose partitions begin with so many groups, from 1 to 1,024. It takes
+    /// no memory.
+    pub fn fresh(alloc: Global, table: Name, buckets: u16) -> Control
+        requires { IsBuckets buckets }
+        ensures { IsControl (fresh table buckets) [] result }
     {
         Control {
             table,
+            buckets: Buckets::new(buckets),
             session: 0,
             last: InstantTime::FIRST,
             completed: Vec::new(alloc),

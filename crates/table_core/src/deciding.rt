@@ -7,10 +7,10 @@ ghost use Rattle.table_history.specs.Operations.{Decides};
 ghost use Rattle.table_history.specs.Tables.{Table};
 
 use crate::Control;
-use crate::lists::targets_of_slots;
 use crate::names::{creation, log_name};
 use crate::rooms::Rooms;
 use crate::slice_logs::SliceLogs;
+use crate::tiles::targets_of_slots;
 use crate::times::is_among;
 use file_names::{State, Token};
 use hudi_base::{Bytes, InstantTime, Sequence, Target};
@@ -104,7 +104,7 @@ impl Control {
             → Decides A H (Step.Enter t slots.now) now decision) }
     {
         Ok(Decision {
-            reply: Reply::Entered(targets_of_slots(alloc, slots)?),
+            reply: Reply::Entered(targets_of_slots(alloc, &self.buckets, slots)?),
             op: creation(alloc, &self.table, t, State::Inflight)?,
         })
     }

@@ -15,6 +15,7 @@ mod reserving;
 mod rooms;
 mod slice_logs;
 mod taking;
+mod tiles;
 mod times;
 mod viewing;
 

@@ -2,49 +2,11 @@
 ghost use Rattle.std.specs.Prelude.{◌≡◌, ◌++◌, ◌∷◌, [], IfOk, OnOk, map};
 ghost use Rattle.table_core.specs.ViewTables.{part_named};
 ghost use Rattle.table_history.specs.Pins.{files_of_view};
-ghost use Rattle.table_history.specs.Targets.{one_group, target_of_group, targets_of_slots};
 
 use crate::names::part_of;
-use hudi_base::{GroupRef, InstantTime, Name, Sequence, Target};
+use hudi_base::{Name, Sequence, Target};
 use std::alloc::{AllocError, Global};
-use table_history::{GroupParts, LogFile, Part, PartitionSlots, View};
-
-// The group that all slots have, until partitions and tilings come.
-pub(crate) fn one_group(alloc: Global) -> Result<GroupRef, AllocError>
-    ensures { IfOk result (λ group. group ≡ one_group) }
-{
-    Ok(GroupRef {
-        partition: Name::from_text(alloc, "x")?,
-        lo: 0,
-        hi: 65_535,
-        born: InstantTime::FIRST,
-    })
-}
-
-// Its slice for new blocks.
-pub(crate) fn one_target(alloc: Global) -> Result<Target, AllocError>
-    ensures { IfOk result (λ target. target ≡ target_of_group one_group) }
-{
-    let group = one_group(alloc)?;
-    Ok(Target {
-        slice: group.born,
-        group,
-    })
-}
-
-// The targets of a deltacommit with these slots.
-pub(crate) fn targets_of_slots(
-    alloc: Global,
-    slots: &[PartitionSlots],
-) -> Result<Sequence<Target>, AllocError>
-    ensures { IfOk result (λ targets. targets ≡ targets_of_slots slots.now) }
-{
-    let mut targets = Sequence::new(alloc);
-    if !slots.is_empty() {
-        targets.push(one_target(alloc)?)?;
-    }
-    Ok(targets)
-}
+use table_history::{LogFile, Part, View};
 
 fn push_target(
     alloc: Global,

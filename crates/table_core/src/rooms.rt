@@ -40,7 +40,7 @@ impl Key for Target {
 /// Values at keys. What stands for no value may be put in first, so that a value finds room.
 #[derive(Drop)]
 pub(crate) struct Rooms<K: Key, V> {
-    slots: BTreeMap<K, V>,
+    pub(crate) slots: BTreeMap<K, V>,
 }
 
 #[tactic(auto, unfolding(crate::specs::Rooms::found))]

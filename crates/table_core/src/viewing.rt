@@ -1,42 +1,46 @@
 // What a pin sees.
-ghost use Rattle.std.specs.Prelude.{IfOk, ◌≡◌, Some, None};
-ghost use Rattle.table_core.specs.ViewTables.{IsViewIn, chain_in, groups_in, view_groups_in, completed_in, instant_in};
+ghost use Rattle.std.specs.Prelude.{IfOk, OnOk, ◌≡◌, ◌++◌, ◌∷◌, []};
+ghost use Rattle.table_core.specs.ViewTables.{IsViewIn, AreEntries, ArePartsIn, groups_among, completed_in, instant_in};
 
 use crate::Control;
-use crate::lists::{one_group, one_target, parts_of};
+use crate::lists::parts_of;
+use crate::slice_logs::SliceLogs;
 use crate::times::{greatest, up_to};
 use hudi_base::{InstantTime, Sequence, Target};
 use std::alloc::{AllocError, Global};
-use table_history::{GroupParts, Part, View};
+use table_history::{GroupParts, View};
 
 impl Control {
-    // The files of a slice, the least version first.
-    fn chain(
+    // A group of the tiles with the files of its current slice, where it has some.
+    fn push_group(
         &self,
         alloc: Global,
         slice: &Target,
-        bases_only: bool,
-    ) -> Result<Sequence<Part>, AllocError>
-        ensures { IfOk result (λ parts. parts ≡ chain_in self.now slice.now bases_only) }
+        logs: &SliceLogs,
+        groups: &mut Sequence<GroupParts>,
+    ) -> Result<(), AllocError>
+        ensures { OnOk result (groups.new
+            ≡ groups.old ++ groups_among self.now.table self.now.buckets ((slice.now, logs.now) ∷ [])) }
     {
-        if bases_only {
-            return Ok(Sequence::new(alloc));
+        let is_current = slice.slice == slice.group.born;
+        if logs.logs().is_empty() || !is_current || !self.buckets.has(&slice.group) {
+            return Ok(());
         }
-        match self.slices.get(slice) {
-            Some(logs) => parts_of(alloc, &self.table, slice, logs.logs()),
-            None => Ok(Sequence::new(alloc)),
-        }
+        groups.push(GroupParts {
+            group: slice.group.copy(alloc)?,
+            parts: parts_of(alloc, &self.table, slice, logs.logs())?,
+        })
     }
 
-    // The groups that have a file.
-    fn groups(&self, alloc: Global, bases_only: bool) -> Result<Sequence<GroupParts>, AllocError>
-        ensures { IfOk result (λ groups. groups ≡ groups_in self.now bases_only) }
+    // The groups of the tiles that have files.
+    fn groups(&self, alloc: Global) -> Result<Sequence<GroupParts>, AllocError>
+        ensures groups { IfOk result (λ groups.
+            groups ≡ groups_among self.now.table self.now.buckets self.now.slices.slots.entries) }
+        ensures entries { AreEntries self.now.slices }
     {
-        let parts = self.chain(alloc, &one_target(alloc)?, bases_only)?;
         let mut groups = Sequence::new(alloc);
-        if !parts.is_empty() {
-            let group = one_group(alloc)?;
-            groups.push(GroupParts { group, parts })?;
+        for (slice, logs) in self.slices.slots.iter() {
+            self.push_group(alloc, slice, logs, &mut groups)?;
         }
         Ok(groups)
     }
@@ -47,12 +51,12 @@ impl Control {
         t: Option<InstantTime>,
         bases_only: bool,
     ) -> Result<Sequence<GroupParts>, AllocError>
-        ensures { IfOk result (λ groups. groups ≡ view_groups_in self.now t bases_only) }
+        ensures { IfOk result (λ groups. ArePartsIn self.now t bases_only groups) }
     {
-        match t {
-            Some(_) => self.groups(alloc, bases_only),
-            None => Ok(Sequence::new(alloc)),
+        if t.is_none() || bases_only {
+            return Ok(Sequence::new(alloc));
         }
+        self.groups(alloc)
     }
 
     fn completed_at(

@@ -106,8 +106,8 @@ pub pin_bound : (work : Work) (A : Table) (H : History) → IsLegal work A H →
 pin_bound work A [] legal p live now = absurd (none_owns now)
 pin_bound work A (e ∷ H) legal p live now = one_pin A H p e.job e.step e.reply live legal.1.answers (pin_bound work A H legal.0 p live) now
 
-pub fresh_opened : (name : List ℕ) → IsOpened (fresh name)
-fresh_opened name t i is = absurd (none_owns is)
+pub fresh_opened : (name : List ℕ) (buckets : ℕ) → IsOpened (fresh name buckets)
+fresh_opened name buckets t i is = absurd (none_owns is)
 
 abbrev unowned : (ℕ × Instant) → (ℕ × Instant)
 unowned known = (known.0, record known.1 { owner = None })

@@ -9,7 +9,7 @@ use Rattle.table_history.specs.Instants.{instant_of, completed_instants}
 use Rattle.table_history.specs.Logs.{target_at, version_in_use, known_length, bytes_of}
 use Rattle.table_history.specs.Pins.{pin_of, part_at, IsView}
 use Rattle.table_history.specs.Tables.{Table, Instant}
-use Rattle.table_history.specs.Targets.{targets_of_slots}
+use Rattle.table_history.specs.Targets.{AreTargets}
 use Rattle.table_history.specs.Times.{greatest_time}
 use Rattle.table_history.specs.declared.entry.Entry.{Entry}
 use Rattle.table_history.specs.declared.job.Job.{Job}
@@ -66,11 +66,11 @@ BeginAnswers A H (reply.Damaged name cause) = cause ≡ Exists
 BeginAnswers A H _ = ⊥
 
 -- the groups of the slots, each with its current slice
-abbrev pub EnterAnswers : List PartitionSlots → Reply → Type 0
-EnterAnswers slots (reply.Entered targets) = targets ≡ targets_of_slots slots
-EnterAnswers slots reply.Fault = Unit {0}
-EnterAnswers slots (reply.Damaged name cause) = cause ≡ Exists
-EnterAnswers slots _ = ⊥
+abbrev pub EnterAnswers : Table → List PartitionSlots → Reply → Type 0
+EnterAnswers A slots (reply.Entered targets) = AreTargets A slots targets
+EnterAnswers A slots reply.Fault = Unit {0}
+EnterAnswers A slots (reply.Damaged name cause) = cause ≡ Exists
+EnterAnswers A slots _ = ⊥
 
 -- in the version in use of the slice, at its known length
 abbrev pub AppendAnswers : Table → History → ℕ → ℕ → Reply → Type 0
@@ -111,7 +111,7 @@ DoneAnswers _ = ⊥
 -- Fault and Damaged are free here: when they come is said of the step that does the operation.
 abbrev pub Answers : Table → History → Step → Reply → Type 0
 Answers A H Begin r = BeginAnswers A H r
-Answers A H (Enter t slots) r = EnterAnswers slots r
+Answers A H (Enter t slots) r = EnterAnswers A slots r
 Answers A H (Append t target writes bytes) r = AppendAnswers A H t target r
 Answers A H (Finish t checkpoint) r = FinishAnswers t r
 Answers A H (Pin at bases_only) r = PinAnswers A H at bases_only r

@@ -9,7 +9,7 @@ use Rattle.table_history.specs.Histories.{History}
 use Rattle.table_history.specs.Instants.{completed_instants, latest}
 use Rattle.table_history.specs.Logs.{logs_of}
 use Rattle.table_history.specs.Tables.{Table}
-use Rattle.table_history.specs.Targets.{one_group}
+use Rattle.table_history.specs.Targets.{AreLive}
 use Rattle.table_history.specs.declared.job.Job.{Job}
 use Rattle.table_history.specs.declared.log_file.LogFile.{LogFile}
 use Rattle.table_history.specs.declared.reply.Reply.{Reply}
@@ -50,10 +50,6 @@ files_of_view view = flat_map (λ g. g.parts) view.groups
 abbrev pub completed_up_to : Table → History → ℕ → List ℕ
 completed_up_to A H t = reverse (filter (λ u. nat_le u t) (completed_instants A H))
 
--- The groups of the tiles at a time, by partition and first slot. For now it is one.
-abbrev pub groups_at : Table → History → ℕ → List GroupRef
-groups_at A H t = one_group ∷ []
-
 -- a log as a part of a view
 abbrev pub part_of : Table → Target → LogFile → Part
 part_of A s log = record { name = name_of A.name (Log s.group s.slice log.version (record { session = log.session; attempt = log.attempt })); length = log.length; base = false }
@@ -64,11 +60,20 @@ abbrev pub chain_at : Table → History → GroupRef → ℕ → Bool → List P
 chain_at A H group t true = []
 chain_at A H group t false = map (part_of A (record { group = group; slice = group.born })) (reverse (logs_of A H (record { group = group; slice = group.born })))
 
--- the groups that have a file, each with its chain; none where no instant is pinned
-abbrev pub view_groups : Table → History → Option ℕ → Bool → List GroupParts
-view_groups A H None bases_only = []
-view_groups A H (Some t) bases_only =
-    filter (λ g. nat_lt 0 (length g.parts)) (map (λ group. record { group = group; parts = chain_at A H group t bases_only }) (groups_at A H t))
+-- the group has a file
+abbrev pub has_files : Table → History → ℕ → Bool → GroupRef → Bool
+has_files A H t bases_only group = nat_lt 0 (length (chain_at A H group t bases_only))
+
+-- The groups of the tiles that have a file, each with its chain.
+pub record AreParts (A : Table) (H : History) (t : ℕ) (bases_only : Bool) (parts : List GroupParts) : Type 0 where
+  pub groups : List GroupRef
+  pub live : AreLive A (has_files A H t bases_only) groups
+  pub are : parts ≡ map (λ group. record { group = group; parts = chain_at A H group t bases_only }) groups
+
+-- those at a pin's instant; none where no instant is pinned
+abbrev pub ArePartsAt : Table → History → Option ℕ → Bool → List GroupParts → Type 0
+ArePartsAt A H None bases_only parts = parts ≡ []
+ArePartsAt A H (Some t) bases_only parts = AreParts A H t bases_only parts
 
 -- the instant that a pin is at: the named one, else the latest
 abbrev pub pinned_instant : Table → History → Option ℕ → Option ℕ
@@ -83,7 +88,7 @@ completed_for A H (Some t) = completed_up_to A H t
 pub record IsView (A : Table) (H : History) (at : Option ℕ) (bases_only : Bool) (view : View) : Type 0 where
   pub pin : view.pin ≡ pins_made H + 1
   pub t : view.t ≡ pinned_instant A H at
-  pub groups : view.groups ≡ view_groups A H view.t bases_only
+  pub groups : ArePartsAt A H view.t bases_only view.groups
   pub completed : view.completed ≡ completed_for A H view.t
 
 -- a file of a live pin's view

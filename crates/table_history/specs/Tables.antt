@@ -32,10 +32,12 @@ pub record KnownFile : Type 0 where
   pub name : List ℕ
   pub bytes : List ℕ
 
--- A table: its name, the instants by time, how many of them are completed, the earliest instant that queries may read,
--- the files, the session, and the greatest time in the names of the timeline.
+-- A table: its name, how many groups each of its partitions begins with, the instants by time, how many of them are
+-- completed, the earliest instant that queries may read, the files, the session, and the greatest time in the names of
+-- the timeline.
 pub record Table : Type 0 where
   pub name : List ℕ
+  pub buckets : ℕ
   pub instants : List (ℕ × Instant)
   pub completed : ℕ
   pub earliest : ℕ
@@ -44,8 +46,8 @@ pub record Table : Type 0 where
   pub last : ℕ
 
 -- a table without instants
-abbrev pub fresh : List ℕ → Table
-fresh name = record { name = name; instants = []; completed = 0; earliest = first_time; files = []; session = 0; last = first_time }
+abbrev pub fresh : List ℕ → ℕ → Table
+fresh name buckets = record { name = name; buckets = buckets; instants = []; completed = 0; earliest = first_time; files = []; session = 0; last = first_time }
 
 abbrev pub instant_at : List (ℕ × Instant) → ℕ → Option Instant
 instant_at [] t = None

@@ -27,7 +27,7 @@ pub fn entries_leave_others()
 pub fn owned_instants_were_drawn()
     ensures drawn { (A : Table) (H : History) → IsOpened A → (t : ℕ) (j : Job) → owner_of A H t ≡ Some j → t ≤ greatest_time A H }
     ensures undrawn { (A : Table) (H : History) → IsOpened A → (t : ℕ) → greatest_time A H < t → instant_of A H t ≡ None }
-    ensures fresh { (name : List ℕ) → IsOpened (fresh name) }
+    ensures fresh { (name : List ℕ) (buckets : ℕ) → IsOpened (fresh name buckets) }
     ensures reopened { (A : Table) (files : List KnownFile) → IsOpened (reopened A files) }
 {}
 

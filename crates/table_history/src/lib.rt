@@ -3,7 +3,8 @@
 //!
 //! It is definitions and laws, in `specs/` and `laws`: that an entry changes nothing of what it isn't about, that an
 //! owned instant was drawn, and that a job which keeps its own law meets the condition of its next step. The control
-//! tables above decide by these definitions. It stands on `hudi_base` and `file_names`.
+//! tables above decide by these definitions. It stands on `hudi_base`, `file_names` and, for the
+//! groups that share the slots of a partition, `key_index`.
 #![tactic(auto)]
 
 mod entry;

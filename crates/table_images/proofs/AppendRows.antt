@@ -48,7 +48,7 @@ group_cases g h = by_test (is_group g h) refl
     by_test false other = inr (λ same. let yes : is_group g h ≡ true = ap (is_group g) (sym same) ∙ itself_group g in let wrong : true ≡ false = sym yes ∙ other in cc)
 
 current_then : (A : Table) (H K : History) (s : Target) → greatest_in (after_history A H).instants ≤ greatest_in (after_history A K).instants → IsCurrent (after_history A H) s → IsCurrent (after_history A K) s
-current_then A H K s le current = record { live = current.live; slice = current.slice; bounded = omega (arith, current.bounded, le) }
+current_then A H K s le current = record { live = current.live; partition = current.partition; slice = current.slice; bounded = omega (arith, current.bounded, le) }
 
 -- owned instants, where one of them placed a block
 owned_then : (A : Table) (H K : History) (t : ℕ) (f : Instant → Instant) (i : Instant) → instant_of A H t ≡ Some i → greatest_in (after_history A H).instants ≤ greatest_in (after_history A K).instants
@@ -119,6 +119,7 @@ unfolding OwnedInstants
 row_placed A H image j t target writes version at block appending fits write first named kept = record {
   timeline = timeline_still A H K image new stages (λ u action st time. timeline_apart A H image s bytes named u action st time) kept;
   whole = whole_more A H K image s kept to bytes (to.blocks ++ block ∷ [], log);
+  tiles = kept.tiles;
   chains = chains_then A H K image s kept to appending.current bytes (block ∷ []) log t (with_block target writes bytes) appending.i appending.is (one_of t block write)
       (λ blocks. appender-placed blocks block s.group t appending.i s target writes appending.inflight appending.target_is refl write ((one_of t block write).unvoiding t))
       (λ group blocks apart. appender-apart blocks group t appending.i s target writes bytes appending.inflight appending.target_is apart) (λ u. refl);
@@ -198,6 +199,7 @@ module _ (A : Table) (H : History) (image : FileMap) (j : Job) (t target writes 
   row_nothing = record {
     timeline = timeline_still A H K image image stages (λ u action st time. refl) kept;
     whole = whole_unchanged A H K image appending.s kept to failing;
+    tiles = kept.tiles;
     chains = λ group is_group.
         let was = kept.chains group is_group in (
           was.0,
@@ -231,6 +233,7 @@ module _ (A : Table) (H : History) (image : FileMap) (j : Job) (t target writes 
   row_prefix n = record {
     timeline = timeline_still A H K image new stages (λ u action st time. timeline_apart A H image appending.s more named u action st time) kept;
     whole = whole_more A H K image appending.s kept to more (to.blocks ++ adds.new, log);
+    tiles = kept.tiles;
     chains = chains_then A H K image appending.s kept to appending.current more adds.new log t failed appending.i appending.is (of_prefix adds.new adds.is)
         (λ blocks. appender-failed blocks adds.new appending.s.group t appending.i appending.inflight) (λ group blocks apart. appender-failed blocks [] group t appending.i appending.inflight) (λ u. refl);
     numbers = record {

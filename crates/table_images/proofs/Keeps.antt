@@ -81,7 +81,7 @@ module _ (work : Work) (A : Table) (opened : IsOpened A) (last : greatest_in A.i
   enters image H j t slots (reply.Entered targets) did kept may answers is possible =
       let own = owner_at A H j t (λ i. i.state ≡ Requested) may.0 in
       subst (After image H j (Enter t slots) (reply.Entered targets)) (sym is)
-      (row_entered A H image j t slots targets own.i own.is own.owner own.what answers (subst (IsPossible image) is possible) kept)
+      (row_entered A H image j t slots targets own.i own.is own.owner own.what may.1 answers (subst (IsPossible image) is possible) kept)
   enters image H j t slots reply.Fault did kept may answers is possible =
       quiet image H j (Enter t slots) reply.Fault did (no_creation (timeline_name A t Delta Inflight) [] did is)
       (row_quiet A H image j (Enter t slots) reply.Fault tt (line_less A H _ t failed no_more-failed (λ u. refl)) kept)

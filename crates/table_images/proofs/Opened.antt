@@ -27,6 +27,8 @@ use Rattle.table_images.specs.Stops.{IsAtStop}
 use Rattle.table_images.specs.Timeline.{TimelineFiles, HasReached}
 use Rattle.table_images.proofs.Failing.{fails}
 use Rattle.table_images.proofs.Images.{between, images, image_behind}
+use Rattle.key_index.specs.Tiling.{IsBuckets}
+use Rattle.key_index.proofs.FirstTiles.{first-tiling}
 use Rattle.table_images.proofs.Keeps.{keeps}
 use Rattle.table_images.proofs.Lines.{at_after, first_least, under_greatest, greatest_least, none_some}
 use Rattle.table_images.proofs.NumberCells.{up_to}
@@ -39,6 +41,7 @@ unfolding ChainsHold
 stands_of A image H kept = record {
   timeline = kept.timeline;
   whole = kept.whole;
+  tiles = kept.tiles;
   chains = λ group named.
       let was = kept.chains group named in (
         was.0,
@@ -85,6 +88,7 @@ kept_of A files stands opened = record {
         only = λ bytes is. subst (λ (o : Option Instant). HasReached o action s) (sym (same_instants A t)) (marked.only bytes is);
       };
   whole = λ group slice version token bytes has. stands.whole group slice version token bytes (record { named = has.named; there = has.there });
+  tiles = stands.tiles;
   chains = λ group named.
       let was = stands.chains group named in (
         was.0,
@@ -126,11 +130,12 @@ kept_of A files stands opened = record {
 
 -- ---- a table without files
 
-pub fresh_stands : (name : List ℕ) → StandsFor empty (fresh name) 0
+pub fresh_stands : (name : List ℕ) (buckets : ℕ) → IsBuckets buckets → StandsFor empty (fresh name buckets) 0
 unfolding TimelineFiles WholeBlocks ChainsHold KnownFiles
-fresh_stands name = record {
+fresh_stands name buckets fit = record {
   timeline = λ t action s time. record { there = λ reached. absurd reached; only = λ bytes is. absurd (none (sym (get-empty (slice_cmp nat_cmp) _) ∙ is)) };
   whole = λ group slice version token bytes has. absurd (none (sym (get-empty (slice_cmp nat_cmp) _) ∙ has.there));
+  tiles = λ partition. first-tiling partition buckets fit;
   chains = λ group named. (
     empty,
     record {
@@ -154,9 +159,9 @@ fresh_stands name = record {
     none : {X : Type 0} {x : X} → None ≡ Some x → ⊥
     none is = none_some is
 
-pub fresh_just_opened : (name : List ℕ) → IsJustOpened empty (fresh name)
-fresh_just_opened name = record {
-  opened = fresh_opened name;
+pub fresh_just_opened : (name : List ℕ) (buckets : ℕ) → IsJustOpened empty (fresh name buckets)
+fresh_just_opened name buckets = record {
+  opened = fresh_opened name buckets;
   last = omega arith;
   known = λ of bytes has kind. absurd (none_some (sym (get-empty (slice_cmp nat_cmp) _) ∙ has.there));
   once = tt;

@@ -113,6 +113,7 @@ stands_again image A tries files stands listing = record {
         only = λ bytes is. subst (λ (o : Option Instant). HasReached o action s) (sym (at_reopened A.instants t)) (reached_on (instant_at A.instants t) action s (marked.only bytes is));
       };
   whole = λ group slice version token bytes has. stands.whole group slice version token bytes (record { named = has.named; there = has.there });
+  tiles = stands.tiles;
   chains = λ group named.
       let was = stands.chains group named in (
         was.0,

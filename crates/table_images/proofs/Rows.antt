@@ -1,5 +1,6 @@
 -- All parts at one kind of step: steps that leave the logs.
 use Rattle.std.proofs.Common.{◌≡◌, inr, ◌<◌, ◌≤◌, ℕ, false, List, [], ◌∷◌, Option, Some, None, refl, sym, ap, ◌∙◌, subst, arith}
+use Rattle.std.specs.List.{All}
 use Rattle.std.specs.FinMap.{get, insert}
 use Rattle.hudi_base.specs.Files.{FileMap}
 use Rattle.hudi_base.specs.InstantTime.{IsTime}
@@ -11,12 +12,13 @@ use Rattle.file_names.specs.declared.file_name.FileName.TheVariants as file
 use Rattle.file_names.specs.declared.file_name.State.{State}
 use Rattle.file_names.specs.declared.file_name.State.TheVariants.{Requested, Inflight, Completed}
 use Rattle.file_names.proofs.NameTexts.{name_of_injective}
+use Rattle.table_forms.specs.NameForms.{IsPartitionPath}
 use Rattle.table_history.specs.After.{after_history, greatest_in}
 use Rattle.table_history.specs.Concerns.{IsOpened}
 use Rattle.table_history.specs.Histories.{History}
 use Rattle.table_history.specs.Instants.{instant_of, completions, begun, entered, completed}
 use Rattle.table_history.specs.Tables.{Table, Instant}
-use Rattle.table_history.specs.Targets.{targets_of_slots}
+use Rattle.table_history.specs.Targets.{AreTargets}
 use Rattle.table_history.specs.Times.{greatest_time}
 use Rattle.table_history.specs.declared.entry.Entry.{Entry}
 use Rattle.table_history.specs.declared.job.Job.{Job}
@@ -56,6 +58,7 @@ unfolding ChainsHold
 row_quiet A H image j s r other line kept = record {
   timeline = timeline_still A H K image image stages (λ t action st time. refl) kept;
   whole = whole_still A H K image image leaves kept;
+  tiles = kept.tiles;
   chains = λ group named.
       let was = kept.chains group named in
       (was.0, chain_left A H K image image group was.0 leaves was.1, to_chain A K group was.0 (blocks_of_chain was.0) refl (holds_still A H K group (blocks_of_chain was.0) line (of_chain A H group was.0 was.2)));
@@ -103,6 +106,7 @@ unfolding ChainsHold
 row_advanced A H image j st r t s found other time absent advance start owner here kept = record {
   timeline = timeline_made A H K image t s found time advance kept;
   whole = whole_still A H K image (with_marked A image t s) leaves kept;
+  tiles = kept.tiles;
   chains = λ group named.
       let was = kept.chains group named in
       let holds = of_chain A H group was.0 was.2 in (
@@ -147,17 +151,20 @@ start_of A H image t i e kept is =
     let rise = completions_rise A H e in
     omega (arith, old, rise)
 
+targets_after : (A : Table) (K : History) (slots : List PartitionSlots) (targets : List Target) → AreTargets A slots targets → AreTargets (after_history A K) slots targets
+targets_after A K slots targets are = record { groups = are.groups; live = record { are = are.live.are; order = are.live.order }; are = are.are }
+
 pub row_entered : (A : Table) (H : History) (image : FileMap) (j : Job) (t : ℕ) (slots : List PartitionSlots) (targets : List Target) (i : Instant) → instant_of A H t ≡ Some i → i.owner ≡ Some j
-    → i.state ≡ Requested → targets ≡ targets_of_slots slots → get image (timeline_name A t Delta Inflight) ≡ None → Kept A image H
+    → i.state ≡ Requested → All (λ (asked : PartitionSlots). IsPartitionPath asked.partition) slots → AreTargets A slots targets → get image (timeline_name A t Delta Inflight) ≡ None → Kept A image H
     → Kept A (with_marked A image t Inflight) (entry j (Enter t slots) (reply.Entered targets) ∷ H)
 unfolding OwnedInstants
-row_entered A H image j t slots targets i is owner requested are absent kept =
+row_entered A H image j t slots targets i is owner requested paths are absent kept =
     let owned = kept.owned t i j is owner in
     let e = entry j (Enter t slots) (reply.Entered targets) in
     row_advanced A H image j (Enter t slots) (reply.Entered targets) t Inflight (entered targets i) tt owned.time absent
     (advances_changed A H e t (entered targets) i Inflight is owned.action (next_of i.state Requested Inflight requested tt) refl refl (λ u. refl))
     (start_of A H image t i e kept is)
-    (λ job owns. owned-entered (after_history A (e ∷ H)) t i slots targets are requested (owned_more A H (e ∷ H) t i (greatest_rises A H e) owned))
+    (λ job owns. owned-entered (after_history A (e ∷ H)) t i slots targets paths (targets_after A (e ∷ H) slots targets are) requested (owned_more A H (e ∷ H) t i (greatest_rises A H e) owned))
     (λ group chain at holds. here_entered A H group (blocks_of_chain chain) t i targets is (owned.unplaced requested) requested holds) kept
 
 pub row_completed : (A : Table) (H : History) (image : FileMap) (j : Job) (t : ℕ) (checkpoint : Option ℕ) (i : Instant) → instant_of A H t ≡ Some i → i.owner ≡ Some j → i.failed ≡ false

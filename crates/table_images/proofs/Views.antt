@@ -1,6 +1,6 @@
 -- What pins keep is known: the table has each part's file, and at least so many bytes of it.
 use Rattle.std.proofs.Common.{◌≡◌, ◌⊎◌, inl, inr, ◌≤◌, ◌+◌, ℕ, Bool, true, false, cond, List, [], ◌∷◌, ◌++◌, length, map, Option, Some, None, length-append, refl, sym, ap, ◌∙◌, subst, arith}
-use Rattle.std.specs.Prelude.{reverse, nat_lt}
+use Rattle.std.specs.Prelude.{reverse}
 use Rattle.std.specs.FinMap.{get}
 use Rattle.std.proofs.lemmas.List.{reverse-append}
 use Rattle.std.specs.List.{AllByRecursion, flat_map}
@@ -14,9 +14,8 @@ use Rattle.file_names.specs.declared.file_name.FileName.TheVariants as file
 use Rattle.table_history.specs.Histories.{History}
 use Rattle.table_history.specs.Logs.{files_of, logs_of, bytes_in, with_bytes, is_unused}
 use Rattle.table_history.specs.declared.log_file.LogFile.{LogFile}
-use Rattle.table_history.specs.Pins.{pin_of, files_of_view, view_groups, chain_at, part_of, IsView}
+use Rattle.table_history.specs.Pins.{pin_of, files_of_view, ArePartsAt, chain_at, part_of, IsView}
 use Rattle.table_history.specs.Tables.{Table, KnownFile}
-use Rattle.table_history.specs.Targets.{one_group}
 use Rattle.table_history.specs.declared.view.Part.{Part}
 use Rattle.table_history.specs.declared.view.View.{View}
 use Rattle.table_history.specs.declared.view.LivePin.{LivePin}
@@ -129,19 +128,19 @@ chain_known A H group t false logs =
     all_mapped (IsKnownPart A H) (part_of A (record { group = group; slice = group.born })) (reverse (logs_of A H (record { group = group; slice = group.born })))
     (all_reversed (IsKnownLog A (files_of A H) (record { group = group; slice = group.born })) (logs_of A H (record { group = group; slice = group.born })) (logs (record { group = group; slice = group.born })))
 
-groups_known : (A : Table) (H : History) (at : Option ℕ) (bases_only : Bool) → ((s : Target) → AllByRecursion (IsKnownLog A (files_of A H) s) (logs_of A H s))
-    → AllByRecursion (IsKnownPart A H) (flat_map (λ (g : GroupParts). g.parts) (view_groups A H at bases_only))
-groups_known A H None bases_only logs = tt
-groups_known A H (Some t) bases_only logs = by_test (nat_lt 0 (length (chain_at A H one_group t bases_only))) refl
-  where
-    parts : AllByRecursion (IsKnownPart A H) (chain_at A H one_group t bases_only)
-    parts = chain_known A H one_group t bases_only logs
+chains_known : (A : Table) (H : History) (t : ℕ) (bases_only : Bool) (groups : List GroupRef) → ((s : Target) → AllByRecursion (IsKnownLog A (files_of A H) s) (logs_of A H s))
+    → AllByRecursion (IsKnownPart A H) (flat_map (λ (g : GroupParts). g.parts) (map (λ group. (let parts : GroupParts = record { group = group; parts = chain_at A H group t bases_only } in parts)) groups))
+chains_known A H t bases_only [] logs = tt
+chains_known A H t bases_only (group ∷ groups) logs =
+    fit_more (IsKnownPart A H) (chain_at A H group t bases_only) _ (chain_known A H group t bases_only logs) (chains_known A H t bases_only groups logs)
 
-    by_test : (b : Bool) → nat_lt 0 (length (chain_at A H one_group t bases_only)) ≡ b → AllByRecursion (IsKnownPart A H) (flat_map (λ (g : GroupParts). g.parts) (view_groups A H (Some t) bases_only))
-    by_test true some = rw some (fit_more (IsKnownPart A H) (chain_at A H one_group t bases_only) [] parts tt)
-    by_test false none = rw none tt
+groups_known : (A : Table) (H : History) (at : Option ℕ) (bases_only : Bool) (groups : List GroupParts) → ((s : Target) → AllByRecursion (IsKnownLog A (files_of A H) s) (logs_of A H s))
+    → ArePartsAt A H at bases_only groups → AllByRecursion (IsKnownPart A H) (flat_map (λ (g : GroupParts). g.parts) groups)
+groups_known A H None bases_only groups logs none =
+    subst (λ (gs : List GroupParts). AllByRecursion (IsKnownPart A H) (flat_map (λ (g : GroupParts). g.parts) gs)) (sym none) tt
+groups_known A H (Some t) bases_only groups logs are =
+    subst (λ (gs : List GroupParts). AllByRecursion (IsKnownPart A H) (flat_map (λ (g : GroupParts). g.parts) gs)) (sym are.are) (chains_known A H t bases_only are.groups logs)
 
 pub view_known : (A : Table) (H : History) (at : Option ℕ) (bases_only : Bool) (view : View) → IsView A H at bases_only view → KnownViews A H
     → AllByRecursion (IsKnownPart A H) (files_of_view view)
-view_known A H at bases_only view is known =
-    subst (λ (gs : List GroupParts). AllByRecursion (IsKnownPart A H) (flat_map (λ (g : GroupParts). g.parts) gs)) (sym is.groups) (groups_known A H view.t bases_only known.logs)
+view_known A H at bases_only view is known = groups_known A H view.t bases_only view.groups known.logs is.groups

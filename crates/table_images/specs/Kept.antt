@@ -1,6 +1,6 @@
 -- What an image of a table has to keep from step to step: more than that it stands for the table. What is added speaks
 -- of owned instants and of the logs that this session appends to, so it says nothing of a table that was just opened.
-use Rattle.std.specs.Prelude.{◌≡◌, ◌⊎◌, ℕ, ◌<◌, ◌≤◌, false, List, [], Some}
+use Rattle.std.specs.Prelude.{◌≡◌, ◌⊎◌, ℕ, ◌<◌, ◌≤◌, true, false, List, [], Some}
 use Rattle.std.specs.FinMap.{get}
 use Rattle.std.specs.List.{AllByRecursion}
 use Rattle.hudi_base.specs.Files.{FileMap}
@@ -13,25 +13,28 @@ use Rattle.file_names.specs.declared.file_name.State.TheVariants as state
 use Rattle.file_names.specs.declared.file_name.Token.{Token}
 use Rattle.log_block.specs.Form.{Fits}
 use Rattle.log_block.specs.declared.block.Block.{Block}
+use Rattle.table_forms.specs.NameForms.{IsPartitionPath}
 use Rattle.table_history.specs.After.{after_history, greatest_in}
 use Rattle.table_history.specs.Histories.{History}
 use Rattle.table_history.specs.Instants.{instant_of}
 use Rattle.table_history.specs.Logs.{attempts, is_unused, version_in_use, bytes_of}
 use Rattle.table_history.specs.Tables.{Table, Instant}
-use Rattle.table_history.specs.Targets.{target_of_group}
+use Rattle.table_history.specs.Targets.{is_live, target_of_group}
 use Rattle.table_history.specs.declared.job.Job.{Job}
 use Rattle.table_images.specs.Chains.{ChainsHold}
 use Rattle.table_images.specs.KnownFiles.{KnownFiles}
 use Rattle.table_images.specs.LogTexts.{HasFile, WholeBlocks, bytes_of_blocks}
-use Rattle.table_images.specs.Numbers.{IsLive, NumbersBounded}
+use Rattle.table_images.specs.Numbers.{NumbersBounded}
 use Rattle.table_images.specs.Runs.{log_in_use}
+use Rattle.table_images.specs.Tiles.{TilesHold}
 use Rattle.table_images.specs.Timeline.{TimelineFiles}
 
 -- ---- owned instants
 
--- the group covers slots now, and its new blocks go to this slice
+-- the group covers slots of a partition now, and its new blocks go to this slice
 pub record IsCurrent (A : Table) (s : Target) : Type 0 where
-  pub live : IsLive A s.group
+  pub live : is_live A s.group ≡ true
+  pub partition : IsPartitionPath s.group.partition
   pub slice : s.slice ≡ (target_of_group s.group).slice
   pub bounded : s.slice ≤ greatest_in A.instants
 
@@ -87,6 +90,7 @@ VersionsRise image A H =
 pub record Kept (A : Table) (image : FileMap) (H : History) : Type 0 where
   pub timeline : TimelineFiles image (after_history A H)
   pub whole : WholeBlocks image (after_history A H)
+  pub tiles : TilesHold (after_history A H)
   pub chains : ChainsHold Counts image (after_history A H)
   pub numbers : NumbersBounded image (after_history A H) (attempts A H)
   pub known : KnownFiles image (after_history A H)

@@ -9,4 +9,5 @@ pub mod Runs
 pub mod Stands
 pub mod StoreRuns
 pub mod Stops
+pub mod Tiles
 pub mod Timeline

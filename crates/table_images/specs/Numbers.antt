@@ -1,5 +1,5 @@
 -- The bounds of the numbers in file names and in blocks.
-use Rattle.std.specs.Prelude.{◌≡◌, ◌⊎◌, ℕ, ◌<◌, ◌≤◌, List, Some}
+use Rattle.std.specs.Prelude.{◌≡◌, ◌⊎◌, ℕ, true, ◌<◌, ◌≤◌, List, Some}
 use Rattle.std.specs.List.{AllByRecursion}
 use Rattle.hudi_base.specs.Files.{FileMap}
 use Rattle.hudi_base.specs.InstantTime.{first_time}
@@ -13,7 +13,7 @@ use Rattle.log_block.specs.declared.block.Block.{Block}
 use Rattle.log_block.specs.declared.block.Block.TheVariants.{Data, Delete, Rollback}
 use Rattle.table_history.specs.After.{greatest_in}
 use Rattle.table_history.specs.Tables.{Table, Instant, instant_at}
-use Rattle.table_history.specs.Targets.{one_group, target_of_group}
+use Rattle.table_history.specs.Targets.{is_live, target_of_group}
 use Rattle.table_images.specs.LogTexts.{HasFile, blocks_in}
 
 -- the name was made by an earlier session, or by one of the attempts that this session has made
@@ -26,17 +26,13 @@ IsUpTo most (Data instant schema content) = instant ≤ most
 IsUpTo most (Delete instant content) = instant ≤ most
 IsUpTo most (Rollback instant target) = (instant ≤ most) × (target ≤ most)
 
--- A group that covers slots now. For now a table has one group.
-abbrev pub IsLive : Table → GroupRef → Type 0
-IsLive A group = group ≡ one_group
-
 -- A log: no time in its name or its blocks is above the greatest in the names of the timeline, and the slice of a live
 -- group isn't above the one that new blocks go to.
 pub record IsBoundedLog (A : Table) (tries : ℕ) (group : GroupRef) (slice : ℕ) (token : Token) (bytes : List ℕ)
     : Type 0 where
   pub made : IsMade A tries token
   pub drawn : slice ≤ greatest_in A.instants
-  pub current : IsLive A group → slice ≤ (target_of_group group).slice
+  pub current : is_live A group ≡ true → slice ≤ (target_of_group group).slice
   pub blocks : AllByRecursion (IsUpTo (greatest_in A.instants)) (blocks_in bytes)
 
 -- a base, likewise

@@ -15,12 +15,14 @@ use Rattle.table_images.specs.Chains.{ChainsHold, IsCompleted}
 use Rattle.table_images.specs.KnownFiles.{KnownFiles}
 use Rattle.table_images.specs.LogTexts.{HasFile, WholeBlocks}
 use Rattle.table_images.specs.Numbers.{NumbersBounded}
+use Rattle.table_images.specs.Tiles.{TilesHold}
 use Rattle.table_images.specs.Timeline.{TimelineFiles}
 
 -- The files of an image stand for a table whose session has tried to make so many names.
 pub record StandsFor (image : FileMap) (A : Table) (tries : ℕ) : Type 0 where
   pub timeline : TimelineFiles image A
   pub whole : WholeBlocks image A
+  pub tiles : TilesHold A
   pub chains : ChainsHold IsCompleted image A
   pub numbers : NumbersBounded image A tries
   pub known : KnownFiles image A

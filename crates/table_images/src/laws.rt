@@ -10,6 +10,7 @@ ghost use Rattle.hudi_base.specs.declared.file_group.Target.{Target};
 ghost use Rattle.file_names.specs.FileName.{IsNamed, group_of_file, name_of};
 ghost use Rattle.file_names.specs.declared.file_name.FileName.{FileName};
 ghost use Rattle.log_block.specs.declared.block.Block.{Block};
+ghost use Rattle.key_index.specs.Tiling.{IsBuckets};
 ghost use Rattle.table_history.specs.After.{reopened};
 ghost use Rattle.table_history.specs.Answers.{May, IsNext};
 ghost use Rattle.table_history.specs.Histories.{History};
@@ -54,8 +55,8 @@ pub fn texts_and_chains_are_one()
 
 /// No files stand for a table without instants, which was just opened.
 pub fn no_files_are_a_fresh_table()
-    ensures stands { (name : List ℕ) → StandsFor empty (fresh name) 0 }
-    ensures opened { (name : List ℕ) → IsJustOpened empty (fresh name) }
+    ensures stands { (name : List ℕ) (buckets : ℕ) → IsBuckets buckets → StandsFor empty (fresh name buckets) 0 }
+    ensures opened { (name : List ℕ) (buckets : ℕ) → IsJustOpened empty (fresh name buckets) }
 {}
 
 /// Where the files of an image stand for a table, also in the middle of a session, they stand for the table that is

@@ -5,7 +5,7 @@
 //! of completed instants in order, numbers are bounded, and the files begin with the bytes that the table knows. Its
 //! law is that every image of a run of entries stands for the table after the entries so far, or with the step under
 //! way failed or done. A board shows of each of its steps what it did to the store, and has the law for its whole run.
-//! It stands on `hudi_base`, `file_names`, `log_block` and `table_history`.
+//! It stands on `hudi_base`, `file_names`, `key_index`, `log_block` and `table_history`.
 #![tactic(auto)]
 
 mod laws;

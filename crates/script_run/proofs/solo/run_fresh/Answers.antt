@@ -17,6 +17,7 @@ returns g c =
     let name : new.origin.name ≡ form.table = c.new.ensures.name ∙ c.fresh.ensures.name ∙ c.in-Ok.ensures ∙ c.table.ensures in
     let made : IsMadeOver new.origin form (g.S.Store.state c.args.store) = record {
       name = name;
+      buckets = c.new.ensures.buckets ∙ c.fresh.ensures.buckets;
       faults = c.new.ensures.faults;
       done = c.new.ensures.done;
       replay = g.met.S.Store.replayed c.args.store;

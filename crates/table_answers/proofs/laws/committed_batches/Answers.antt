@@ -6,6 +6,7 @@ pub returns : goal.returns
 returns g c =
     let work : Work = record { Asks = g.W.Work.asks; Holds = g.W.Work.holds } in
     record {
+      groups = λ form buckets rows before after job mine t made legal wrote answer. (batch_written work form buckets rows before after job mine t made legal wrote answer).wrote;
       wrote = whole_batch work;
-      completed = λ form rows before after job mine t made legal wrote answer. (batch_written work form rows before after job mine t made legal wrote answer).completed;
+      completed = λ form buckets rows before after job mine t made legal wrote answer. (batch_written work form buckets rows before after job mine t made legal wrote answer).completed;
     }

@@ -8,4 +8,4 @@ returns-clause-images g c =
     let work : Work = record { Asks = g.W.Work.asks; Holds = g.W.Work.holds } in
     let i = c.self.inside in
     rw (← c.self.view_is) (λ blocks first operations stood.
-    throughout work (fresh i.control.table) i.first_done (g.S.Store.is_honest i.store) (g.S.Store.state i.store).told i.journal.entries c.self.invariant.on_honest blocks first operations stood)
+    throughout work (fresh i.control.table i.control.buckets) i.first_done (g.S.Store.is_honest i.store) (g.S.Store.state i.store).told i.journal.entries c.self.invariant.on_honest blocks first operations stood)

@@ -6,14 +6,16 @@ use Rattle.table_core.proofs.control.Control.fresh.Goals as goal
 
 pub returns : goal.returns
 returns c = record {
-  opened = fresh_opened c.args.table;
+  opened = fresh_opened c.args.table c.args.buckets;
+  fit = c.requires;
   name = refl;
+  buckets = c.new.ensures;
   session = refl;
   last = refl;
   completed = search rules;
-  targets = λ t. ap (λ o. unwrap_or o []) (c.new-2.ensures t);
-  slices = λ s. no_slice c.args.table s _ (c.new-3.ensures s);
+  targets = λ t. ap (λ o. unwrap_or o []) (c.new-3.ensures t);
+  slices = λ s. no_slice c.args.table c.args.buckets s _ (c.new-4.ensures s);
   attempts = refl;
-  pins = elim [ reader.Pin pin ↦ λ file. no_part file _ (c.new-4.ensures pin) ];
+  pins = elim [ reader.Pin pin ↦ λ file. no_part file _ (c.new-5.ensures pin) ];
   pins_made = refl;
 }
