@@ -15,7 +15,7 @@ mod schema_error;
 mod text;
 
 pub use head::MAX_FIXED_SIZE;
-pub use parse::{MAX_DEPTH, parse_schema};
+pub use parse::{MAX_DEPTH, parse_schema, schema_of_json};
 pub use schema::{Field, Fields, Schema, Schemas, Symbols};
 pub use schema_error::{Path, SchemaError};
 pub use text::text_of;

@@ -7,7 +7,7 @@ ghost use Rattle.avro_schema.specs.AvroTypes.{type_of, field_of};
 ghost use Rattle.avro_schema.specs.Names.{is_among};
 ghost use Rattle.avro_schema.specs.Heads.{union, record_head};
 ghost use Rattle.avro_schema.specs.HeadViews.{head_view};
-ghost use Rattle.avro_schema.specs.SchemaTexts.{Answers, at_position, kind_of, kind_of_head, head_within, type_within, inner_type, branch_after, branches_from, field_head_after, field_after, fields_from, type_inside, type_named};
+ghost use Rattle.avro_schema.specs.SchemaTexts.{Answers, at_position, kind_of, kind_of_head, head_within, type_within, inner_type, branch_after, branches_from, field_head_after, field_after, fields_from, type_inside, type_in, type_named};
 
 use crate::head::{Head, has_field_members, head_of, name_in};
 use crate::name_list::NameList;
@@ -263,20 +263,26 @@ fn type_within(alloc: Global, levels: u32, head: Head<'_>) -> Result<Schema, Sch
     }
 }
 
+/// The schema that a JSON value names, by the rules of `parse_schema`, with its refusals but `NotJson`.
+#[tactic(auto, unfolding(crate::specs::SchemaTexts::type_in))]
+pub fn schema_of_json(alloc: Global, json: &Value) -> Result<Schema, SchemaError>
+    ensures { Answers type_of result (type_in (view json.now)) }
+{
+    let head = head_within(alloc, MAX_DEPTH, json)?;
+    type_within(alloc, MAX_DEPTH, head)
+}
+
 /// The schema that a text names, after "Schema Declaration" of the Avro specification. A text is a primitive type's name,
 /// a union of branches of different types, none of them a union, or an object with a `type`; the attributes `doc`,
 /// `namespace`, `aliases`, `default`, `order` and `logicalType` are passed over. There are no references to named types.
 ///
 /// A refusal is the first in a walk from the root, a schema before those inside it, and has the path to its place.
-#[tactic(auto, unfolding(crate::specs::SchemaTexts::type_named, crate::specs::SchemaTexts::type_in))]
+#[tactic(auto, unfolding(crate::specs::SchemaTexts::type_named))]
 pub fn parse_schema(alloc: Global, text: &[u8]) -> Result<Schema, SchemaError>
     ensures { Answers type_of result (type_named text.now) }
 {
     match parse_json(alloc, text)? {
-        Some(value) => {
-            let head = head_within(alloc, MAX_DEPTH, &value)?;
-            type_within(alloc, MAX_DEPTH, head)
-        }
+        Some(value) => schema_of_json(alloc, &value),
         None => Err(SchemaError::NotJson),
     }
 }

@@ -1,9 +1,10 @@
 // The written text of a schema.
 ghost use Rattle.std.specs.Prelude.{◌≡◌, List, ℕ, Ok, IfOk, IsUtf8, map};
 ghost use Rattle.serde_json.specs.Data as json;
+ghost use Rattle.serde_json.specs.Data.{Data};
 ghost use Rattle.serde_json.specs.View.{view, items_of};
 ghost use Rattle.avro_schema.specs.AvroTypes.{type_of, field_of, branches_of, fields_of, fixed_of, enum_of, array_of, map_of, union_of, record_of};
-ghost use Rattle.avro_schema.specs.SchemaTexts.{type_json, field_json, fields_json, texts_json, type_text, type_named};
+ghost use Rattle.avro_schema.specs.SchemaTexts.{type_json, field_json, fields_json, texts_json, type_in, type_named, type_text};
 
 use crate::schema::{Field, Schema};
 use hudi_base::{Bytes, Name};
@@ -133,11 +134,11 @@ fn schema_json(alloc: Global, schema: &Schema) -> Result<Value, AllocError>
 }
 
 /// The written text of a schema: JSON without spaces, primitive types as texts, and the members of objects in byte order.
-/// A schema that some text names is read again from its written text. The only error is want of memory.
+/// A schema that some JSON names is read again from its written text. The only error is want of memory.
 pub fn text_of(alloc: Global, schema: &Schema) -> Result<Bytes, AllocError>
     ensures text { IfOk result (λ text. text ≡ type_text (type_of schema.now)) }
     ensures utf8 { IfOk result IsUtf8 }
-    ensures reads_back { IfOk result (λ text. (json : List ℕ) → type_named json ≡ Ok (type_of schema.now) → type_named text ≡ Ok (type_of schema.now)) }
+    ensures reads_back { IfOk result (λ text. (json : Data) → type_in json ≡ Ok (type_of schema.now) → type_named text ≡ Ok (type_of schema.now)) }
 {
     let value = schema_json(alloc, schema)?;
     Ok(Bytes::from_vec(value.to_vec(alloc)?))

@@ -1,4 +1,4 @@
--- The fields of a schema that a text names have names.
+-- The fields of a schema that JSON names have names.
 use Rattle.std.proofs.Common.{◌≡◌, ℕ, suc, zero, ◌&&◌, Bool, true, not, List, [], ◌∷◌, ◌++◌, map, length, slice_get, Result, Ok, codes, refl, ap, subst, ◌∙◌}
 use Rattle.std.specs.Prelude as list
 use Rattle.std.specs.List.{list_all}
@@ -12,10 +12,9 @@ use Rattle.avro_schema.specs.declared.schema_error.SchemaError.{SchemaError}
 use Rattle.avro_schema.specs.Names.{is_name, is_among}
 use Rattle.avro_schema.specs.Heads.{Head, leaf, array, union, record_head, ◌>>=◌, only_if, only_some, has_only, name_in, head_of}
 use Rattle.avro_schema.specs.Heads as heads
-use Rattle.avro_schema.specs.SchemaTexts.{at_position, field_head_after, inner_type, branches_from, field_after, fields_from, type_inside, head_within, type_within, type_in, type_named}
+use Rattle.avro_schema.specs.SchemaTexts.{at_position, field_head_after, inner_type, branches_from, field_after, fields_from, type_inside, head_within, type_within, type_in}
 use Rattle.avro_schema.proofs.Steps.{bind_Ok, only_if_Ok, at_position_Ok, ok_of}
 use Rattle.avro_schema.proofs.HeadsAgain.{IsHead, IsLeaf, head_of_is, name_in_is}
-use Rattle.avro_schema.proofs.TypesAgain.{named_json}
 use Rattle.table_props.specs.Flat.{fields_in}
 use Rattle.table_props.proofs.FieldLemmas.{listed_of}
 use Rattle.table_props.proofs.FeedLemmas.{lacks-name}
@@ -91,12 +90,11 @@ unfolding type_within
 level_named zero head schema is e = absurd cc
 level_named (suc n) head schema is e = inside_named (head_within n) (type_within n) head schema is e
 
-pub schema_named : (json : List ℕ) (schema : AvroType) → type_named json ≡ Ok schema → AreNamed schema
+pub schema_named : (json : Data) (schema : AvroType) → type_in json ≡ Ok schema → AreNamed schema
 unfolding type_in
 schema_named json schema e =
-    let d = named_json json schema e in
-    let head = bind_Ok (head_within 32 d.0) (type_within 32) schema d.1 in
-    level_named 32 head.0 schema (head_read 32 d.0 head.0 head.1) head.2
+    let head = bind_Ok (head_within 32 json) (type_within 32) schema e in
+    level_named 32 head.0 schema (head_read 32 json head.0 head.1) head.2
 
 -- the name of the field at a place, or no bytes
 pub lacks-field_at : (fields : List (List ℕ × AvroType)) (place : ℕ) → list_all has_name fields ≡ true → lacks 10 (option_map_or (λ (f : List ℕ × AvroType). f.0) (slice_get fields place) []) ≡ true

@@ -8,17 +8,18 @@ use Rattle.std.proofs.lemmas.List.Sums.{passes_at_first}
 use Rattle.std.proofs.lemmas.Option.{slice_get-get_or}
 use Rattle.avro_schema.specs.AvroTypes.{AvroType, string}
 use Rattle.avro_schema.specs.SchemaTexts.{type_named}
+use Rattle.avro_schema.proofs.TypesAgain.{named_json}
 use Rattle.table_props.specs.Flat.{fields_in, is_flat, is_rank_type, is_string_type}
 use Rattle.table_props.specs.PropsTexts.{Entries, Places, Told, IsTold, HasField, entries_in, places_in, told_in, first_bad, named_place, has_type, place_of, ordering_place, only_if, ok_of, field_name, read_lines, read_props, lines_of, Answers}
 use Rattle.table_props.specs.declared.props.Props.{Props}
 use Rattle.table_props.specs.declared.props.PropsError.{PropsError}
 use Rattle.table_props.proofs.EntryLemmas.{bind_Some, same_bytes, some_is, name_allowed, buckets_allowed}
 
-only_if_Some : {A : Type 0} (test : Bool) (o : Option A) (y : A) → only_if test o ≡ Some y → (test ≡ true) × (o ≡ Some y)
+pub only_if_Some : {A : Type 0} (test : Bool) (o : Option A) (y : A) → only_if test o ≡ Some y → (test ≡ true) × (o ≡ Some y)
 only_if_Some true o y e = (refl, e)
 only_if_Some false o y e = absurd cc
 
-ok_of_Some : {A E : Type 0} (r : Result A E) (x : A) → ok_of r ≡ Some x → r ≡ Ok x
+pub ok_of_Some : {A E : Type 0} (r : Result A E) (x : A) → ok_of r ≡ Some x → r ≡ Ok x
 ok_of_Some (Ok y) x e = ap Ok (some_is y x e)
 ok_of_Some (Err error) x e = absurd cc
 
@@ -47,7 +48,7 @@ has_field schema test name place is =
     let own : field_name schema place ≡ name = named_there name (fields_in schema) place (found.1 ∙ ap Some same) in
     subst (λ (n : List ℕ). place_of test n (fields_in schema) ≡ Some place) (sym own) is
 
-ordering_told : (schema : AvroType) (name : Option (List ℕ)) (place : Option ℕ) → ordering_place name (fields_in schema) ≡ Some place → IfSome place (HasField schema is_rank_type)
+pub ordering_told : (schema : AvroType) (name : Option (List ℕ)) (place : Option ℕ) → ordering_place name (fields_in schema) ≡ Some place → IfSome place (HasField schema is_rank_type)
 ordering_told schema None place is = subst (λ (o : Option ℕ). IfSome o (HasField schema is_rank_type)) (some_is None place is) tt
 ordering_told schema (Some name) place is = of_place (place_of is_rank_type name (fields_in schema)) refl is
   where
@@ -89,7 +90,7 @@ is_told lines told none is =
     record {
       name = name_allowed lines e.0 none e.1;
       buckets = buckets_allowed lines e.0 none e.1;
-      schema = (e.0.schema, ok_of_Some (type_named e.0.schema) schema.0 schema.1);
+      schema = named_json e.0.schema schema.0 (ok_of_Some (type_named e.0.schema) schema.0 schema.1);
       flat = has.flat;
       key = has.key;
       partition = has.partition;

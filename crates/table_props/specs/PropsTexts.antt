@@ -5,10 +5,11 @@ use Rattle.std.specs.Option.{option_map_or}
 use Rattle.std.specs.Fmt.{decimal}
 use Rattle.std.specs.List.{slice_split}
 use Rattle.std.specs.Str.{bytes_eq}
+use Rattle.serde_json.specs.Data.{Data}
 use Rattle.table_forms.specs.Decimals.{decimal_of}
 use Rattle.table_forms.specs.Pieces.{split_once}
 use Rattle.avro_schema.specs.AvroTypes.{AvroType, type_of}
-use Rattle.avro_schema.specs.SchemaTexts.{type_named, type_text}
+use Rattle.avro_schema.specs.SchemaTexts.{type_in, type_named, type_text}
 use Rattle.table_props.specs.declared.property_key.PropertyKey.{PropertyKey}
 use Rattle.table_props.specs.declared.property_key.PropertyKey.TheVariants.{TableName, TableType, TableVersion, KeyField, PartitionField, OrderingField, LayoutVersion, Buckets, TableSchema}
 use Rattle.table_props.specs.declared.props.Props.{Props}
@@ -225,11 +226,11 @@ props_text told =
 abbrev pub HasField : AvroType → (AvroType → Bool) → ℕ → Type 0
 HasField schema test place = place_of test (field_name schema place) (fields_in schema) ≡ Some place
 
--- what properties say that some text says
+-- what the properties of a table say
 pub record IsTold (told : Told) : Type 0 where
   pub name : IsTrue (is_table_name told.name)
   pub buckets : IsTrue (is_bucket_count told.buckets)
-  pub schema : (json : List ℕ) × (type_named json ≡ Ok told.schema)
+  pub schema : (json : Data) × (type_in json ≡ Ok told.schema)
   pub flat : IsTrue (is_flat told.schema)
   pub key : HasField told.schema is_string_type told.key
   pub partition : HasField told.schema is_string_type told.partition

@@ -16,6 +16,7 @@ mod reading;
 mod writing;
 
 pub use flat::{first_not_flat, is_rank_type, is_string_type};
+pub use places::{flat_fields, rank_place, string_place};
 pub use props::{Props, PropsError};
 pub use reading::parse_props;
 pub use writing::text;

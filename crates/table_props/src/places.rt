@@ -50,8 +50,8 @@ fn named_place(fields: &[Field], name: &[u8]) -> Option<usize>
     first_named(fields, name)
 }
 
-// The place of the field with this name, where it is a string.
-fn string_place(fields: &[Field], name: &[u8]) -> Option<usize>
+/// The place of the first field with this name, from 0, where it is a string.
+pub fn string_place(fields: &[Field], name: &[u8]) -> Option<usize>
     ensures { result ≡ place_of is_string_type name.now (map field_of fields.now) }
 {
     let place = named_place(fields, name)?;
@@ -62,8 +62,8 @@ fn string_place(fields: &[Field], name: &[u8]) -> Option<usize>
     }
 }
 
-// The place of the field with this name, where it is a whole number, which may be null.
-fn rank_place(fields: &[Field], name: &[u8]) -> Option<usize>
+/// The place of the first field with this name, from 0, where it is a whole number, or null or a whole number.
+pub fn rank_place(fields: &[Field], name: &[u8]) -> Option<usize>
     ensures { result ≡ place_of is_rank_type name.now (map field_of fields.now) }
 {
     let place = named_place(fields, name)?;
@@ -87,8 +87,8 @@ fn ordering_place(fields: &[Field], name: Option<&[u8]>) -> Option<Option<usize>
     }
 }
 
-// The fields of a record that is flat.
-fn flat_fields(schema: &Schema) -> Option<&[Field]>
+/// The fields of a schema that is flat: a record of fields that `first_not_flat` doesn't find.
+pub fn flat_fields(schema: &Schema) -> Option<&[Field]>
     ensures { MatchOption result (is_flat (type_of schema.now) ≡ false)
         (λ fields. (is_flat (type_of schema.now) ≡ true) × (map field_of fields.now ≡ fields_in (type_of schema.now))) }
 {

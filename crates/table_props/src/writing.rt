@@ -1,8 +1,9 @@
 // Writing properties.
-ghost use Rattle.std.specs.Prelude.{◌≡◌, ◌++◌, ℕ, List, OnOk, IfOk, IfErr, Ok};
+ghost use Rattle.std.specs.Prelude.{◌≡◌, ◌++◌, OnOk, IfOk, IfErr, Ok};
 ghost use Rattle.std.specs.Fmt.{decimal};
+ghost use Rattle.serde_json.specs.Data.{Data};
 ghost use Rattle.avro_schema.specs.AvroTypes.{type_of, field_of};
-ghost use Rattle.avro_schema.specs.SchemaTexts.{type_named, type_text};
+ghost use Rattle.avro_schema.specs.SchemaTexts.{type_in, type_named, type_text};
 ghost use Rattle.table_props.specs.Keys.{key_text};
 ghost use Rattle.table_props.specs.PropsTexts.{IsTold, told_of, line_text, field_name, ordering_line, props_text, read_props};
 ghost use Rattle.table_props.specs.declared.props.PropsError.TheVariants.{Memory};
@@ -75,7 +76,7 @@ fn put_buckets(alloc: Global, out: &mut Vec<u8>, buckets: u16) -> Result<(), All
 fn put_schema(alloc: Global, out: &mut Vec<u8>, schema: &Schema) -> Result<(), AllocError>
     ensures line { OnOk result (out.new.items
         ≡ out.old.items ++ line_text TableSchema (type_text (type_of schema.now))) }
-    ensures named { OnOk result ((json : List ℕ) → type_named json ≡ Ok (type_of schema.now)
+    ensures named { OnOk result ((json : Data) → type_in json ≡ Ok (type_of schema.now)
         → type_named (type_text (type_of schema.now)) ≡ Ok (type_of schema.now)) }
 {
     let text = text_of(alloc, schema)?;
@@ -85,7 +86,7 @@ fn put_schema(alloc: Global, out: &mut Vec<u8>, schema: &Schema) -> Result<(), A
 #[tactic(auto, unfolding(crate::specs::PropsTexts::props_text))]
 fn props_bytes(alloc: Global, props: &Props) -> Result<Vec<u8>, AllocError>
     ensures text { IfOk result (λ out. out.items ≡ props_text (told_of props.now)) }
-    ensures named { OnOk result ((json : List ℕ) → type_named json ≡ Ok (type_of props.now.schema)
+    ensures named { OnOk result ((json : Data) → type_in json ≡ Ok (type_of props.now.schema)
         → type_named (type_text (type_of props.now.schema)) ≡ Ok (type_of props.now.schema)) }
 {
     let mut out = Vec::new(alloc);
@@ -107,7 +108,7 @@ fn props_bytes(alloc: Global, props: &Props) -> Result<Vec<u8>, AllocError>
 }
 
 /// The text of `hoodie.properties`: nine lines in one order, or eight where there is no ordering field. A field is named
-/// by the name of the one at its place. What some text says is read again from it. The only error is want of memory.
+/// by the name of the one at its place. The properties of a table are read again from it. The only error is want of memory.
 pub fn text(alloc: Global, props: &Props) -> Result<Bytes, PropsError>
     ensures text { IfOk result (λ text. text ≡ props_text (told_of props.now)) }
     ensures reads_back { IsTold (told_of props.now) → IfOk result (λ text. read_props text ≡ Ok (told_of props.now)) }

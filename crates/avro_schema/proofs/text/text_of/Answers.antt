@@ -4,7 +4,7 @@ use Rattle.table_forms.specs.JsonObjects.{json_of}
 use Rattle.table_forms.proofs.JsonObjectLemmas.{json_of_text}
 use Rattle.avro_schema.specs.AvroTypes.{type_of}
 use Rattle.avro_schema.specs.SchemaTexts.{type_json, type_text}
-use Rattle.avro_schema.proofs.TypesAgain.{type_no_float, type_in_again, named_json, named_by}
+use Rattle.avro_schema.proofs.TypesAgain.{type_no_float, type_in_again, named_by}
 use Rattle.avro_schema.proofs.text.text_of.Goals as goal
 
 pub returns-clause-text : goal.returns-clause-text
@@ -15,8 +15,7 @@ returns-clause-text c =
 
 pub returns-clause-reads_back : goal.returns-clause-reads_back
 returns-clause-reads_back c = λ json told.
-    let named = named_json json (type_of c.args.schema.now) told in
-    let again = type_in_again named.0 (type_of c.args.schema.now) named.1 in
+    let again = type_in_again json (type_of c.args.schema.now) told in
     let same = c.in_ok-value.ensures in
     let bytes : List ℕ = c.in_ok-to_vec.field-0.items in
     let told_read : read bytes ≡ Some (type_json (type_of c.args.schema.now)) = rw same at (c.in_ok-to_vec.ensures.reads_back (rw same again.1)) in

@@ -1,0 +1,5 @@
+pub mod KeyParts
+pub mod LimitParts
+pub mod LineParts
+pub mod RowParts
+pub mod ScriptParts

@@ -1,0 +1,11 @@
+pub mod Begun
+pub mod Causes
+pub mod DeletedKeys
+pub mod Drafts
+pub mod InitPlaces
+pub mod Inits
+pub mod Jobs
+pub mod Limits
+pub mod RowViews
+pub mod Rows
+pub mod Scripts
