@@ -6,7 +6,7 @@ ghost use Rattle.hudi_base.specs.Store.{Fetches, Lists};
 ghost use Rattle.store_dir.specs.DirState.{DirState, tells_nothing};
 ghost use Rattle.store_dir.specs.ExactCounts.{CountsOnlyFailure};
 
-use crate::disk::{append_bytes, make_file, read_piece, remove_file};
+use crate::disk::{Disk, read_piece};
 use crate::listing::{TEMPORARY_FOLDER, files_below};
 use crate::path::path_of;
 use hudi_base::{Added, Bytes, FaultCount, Fetched, Gone, Listed, Made, Name, Sequence, Store};
@@ -25,7 +25,7 @@ const TEMPORARY_FILE: &str = ".hoodie/.temp/new";
 /// see the folder's path and the count of faults.
 #[derive(Drop)]
 pub struct DirStore<R: Files + Alloc + Clone + Drop> {
-    rt: R,
+    disk: Disk<R>,
     folder: String,
     faults: FaultCount,
 }
@@ -46,7 +46,7 @@ impl<R: Files + Alloc + Clone + Drop> DirStore<R> {
         ensures { result ≡ record { folder = string_bytes folder; faults = 0 } }
     {
         DirStore {
-            rt,
+            disk: Disk::new(rt),
             folder,
             faults: FaultCount::new(),
         }
@@ -64,7 +64,7 @@ impl<R: Files + Alloc + Clone + Drop> Store for DirStore<R> {
         ensures count { CountsOnlyFailure self.old.faults self.new.faults (result ≡ Listed.Failed) }
         ensures folder { self.new.folder ≡ self.old.folder }
     {
-        match files_below(&self.rt, alloc, self.folder.as_str()) {
+        match files_below(self.disk.files(), alloc, self.folder.as_str()) {
             Ok(files) => Listed::Files(Sequence::from_vec(files)),
             Err(error) if is_memory(&error) => Listed::Memory,
             Err(_) => {
@@ -83,7 +83,7 @@ impl<R: Files + Alloc + Clone + Drop> Store for DirStore<R> {
         let Ok(path) = path_of(alloc, self.folder.as_str(), name.as_str()) else {
             return Fetched::Memory;
         };
-        match read_piece(&self.rt, alloc, path.as_str(), at, len) {
+        match read_piece(self.disk.files(), alloc, path.as_str(), at, len) {
             Ok(Some(bytes)) => Fetched::Piece(Bytes::from_vec(bytes)),
             Ok(None) => Fetched::Absent,
             Err(error) if is_memory(&error) => Fetched::Memory,
@@ -105,7 +105,10 @@ impl<R: Files + Alloc + Clone + Drop> Store for DirStore<R> {
         let Ok(temporary) = path_of(alloc, self.folder.as_str(), TEMPORARY_FILE) else {
             return Made::Memory;
         };
-        match make_file(&self.rt, temporary.as_str(), path.as_str(), bytes) {
+        match self
+            .disk
+            .make_file(alloc, temporary.as_str(), path.as_str(), bytes)
+        {
             Ok(true) => Made::Created,
             Ok(false) => Made::Exists,
             Err(_) => {
@@ -123,7 +126,7 @@ impl<R: Files + Alloc + Clone + Drop> Store for DirStore<R> {
         let Ok(path) = path_of(alloc, self.folder.as_str(), name.as_str()) else {
             return Added::Memory;
         };
-        match append_bytes(&self.rt, path.as_str(), bytes) {
+        match self.disk.append_bytes(alloc, path.as_str(), bytes) {
             Ok(()) => Added::Added,
             Err(_) => {
                 self.faults.raise();
@@ -140,7 +143,7 @@ impl<R: Files + Alloc + Clone + Drop> Store for DirStore<R> {
         let Ok(path) = path_of(alloc, self.folder.as_str(), name.as_str()) else {
             return Gone::Memory;
         };
-        match remove_file(&self.rt, path.as_str()) {
+        match self.disk.remove_file(alloc, path.as_str()) {
             Ok(true) => Gone::Removed,
             Ok(false) => Gone::Absent,
             Err(_) => {

@@ -8,6 +8,179 @@ use std::fs::{self, OpenFile, OpenOptions};
 use std::io::{self, ErrorKind, Read, Seek, SeekFrom, Write};
 use std::rt::Files;
 
+// A file or a folder that is open, with its path.
+#[derive(Drop)]
+struct Opened<F: Drop> {
+    path: String,
+    file: F,
+}
+
+/// The files below a folder. What the next change is likely to need stays open: the folder that was synced last, and the
+/// file that was added to last.
+#[derive(Drop)]
+pub struct Disk<R: Files + Drop> {
+    rt: R,
+    folder: Option<Opened<R::File>>,
+    file: Option<Opened<R::File>>,
+}
+
+impl<R: Files + Drop> Disk<R> {
+    /// With nothing open.
+    pub fn new(rt: R) -> Disk<R> {
+        Disk {
+            rt,
+            folder: None,
+            file: None,
+        }
+    }
+
+    /// The files of the system.
+    pub fn files(&self) -> &R {
+        &self.rt
+    }
+
+    /// Makes a file with these bytes where its path is free. Says whether it was. An empty file is whole as soon as it is
+    /// there; another one is written under its temporary path and renamed. A temporary file that is left behind is
+    /// overwritten by the next call.
+    pub fn make_file(
+        &mut self,
+        alloc: Global,
+        temporary: &str,
+        path: &str,
+        bytes: &[u8],
+    ) -> io::Result<bool> {
+        if bytes.is_empty() {
+            self.make_empty(alloc, path)
+        } else {
+            self.make_written(alloc, temporary, path, bytes)
+        }
+    }
+
+    // Makes an empty file. There is nothing in it to be synced: its name is, with the folder.
+    fn make_empty(&mut self, alloc: Global, path: &str) -> io::Result<bool> {
+        let folder = folder_of(path);
+        let made = match create_new(&self.rt, path) {
+            Err(error) if error.kind() == ErrorKind::NotFound => {
+                self.make_folders(alloc, folder)?;
+                create_new(&self.rt, path)
+            }
+            answer => answer,
+        };
+        match made {
+            Ok(()) => {
+                self.sync_folder(alloc, folder)?;
+                Ok(true)
+            }
+            Err(error) if error.kind() == ErrorKind::AlreadyExists => Ok(false),
+            Err(error) => Err(error),
+        }
+    }
+
+    // Makes a file whole under its temporary path, and renames it where its own path is free.
+    fn make_written(
+        &mut self,
+        alloc: Global,
+        temporary: &str,
+        path: &str,
+        bytes: &[u8],
+    ) -> io::Result<bool> {
+        self.make_folders(alloc, folder_of(temporary))?;
+        let mut file = fs::create(&self.rt, temporary)?;
+        write_synced(&mut file, bytes)?;
+        if where_found(fs::symlink_metadata(&self.rt, path))?.is_some() {
+            return Ok(false);
+        }
+        let folder = folder_of(path);
+        self.make_folders(alloc, folder)?;
+        fs::rename(&self.rt, temporary, path)?;
+        self.sync_folder(alloc, folder)?;
+        Ok(true)
+    }
+
+    /// Adds bytes at the end of a file, and makes it where it is absent.
+    pub fn append_bytes(&mut self, alloc: Global, path: &str, bytes: &[u8]) -> io::Result<()> {
+        let mut opened = match take_opened(&mut self.file, path) {
+            Some(file) => file,
+            None => self.open_end(alloc, path)?,
+        };
+        write_synced(&mut opened, bytes)?;
+        self.file = kept_open(alloc, path, opened);
+        Ok(())
+    }
+
+    // The end of a file, which is made where it is absent.
+    fn open_end(&mut self, alloc: Global, path: &str) -> io::Result<R::File> {
+        if let Some(file) = where_found(OpenOptions::new().append(true).open(&self.rt, path))? {
+            return Ok(file);
+        }
+        let folder = folder_of(path);
+        self.make_folders(alloc, folder)?;
+        let file = OpenOptions::new()
+            .append(true)
+            .create(true)
+            .open(&self.rt, path)?;
+        self.sync_folder(alloc, folder)?;
+        Ok(file)
+    }
+
+    /// Removes a file. Says whether it was there.
+    pub fn remove_file(&mut self, alloc: Global, path: &str) -> io::Result<bool> {
+        let _no_more = take_opened(&mut self.file, path);
+        if where_found(fs::remove_file(&self.rt, path))?.is_none() {
+            return Ok(false);
+        }
+        self.sync_folder(alloc, folder_of(path))?;
+        Ok(true)
+    }
+
+    // Makes a folder, and the missing ones on the way to it from the top.
+    fn make_folders(&mut self, alloc: Global, folder: &str) -> io::Result<()> {
+        for end in 1..folder.len() {
+            match folder.split_at_checked(end) {
+                Some((above, rest)) if rest.starts_with('/') => self.make_folder(alloc, above)?,
+                _ => {}
+            }
+        }
+        self.make_folder(alloc, folder)
+    }
+
+    // Makes a folder where it is missing.
+    fn make_folder(&mut self, alloc: Global, folder: &str) -> io::Result<()> {
+        if fs::exists(&self.rt, folder)? {
+            return Ok(());
+        }
+        fs::create_dir(&self.rt, folder)?;
+        self.sync_folder(alloc, folder_of(folder))
+    }
+
+    // Sees to it that the names in a folder outlive a loss of power.
+    fn sync_folder(&mut self, alloc: Global, folder: &str) -> io::Result<()> {
+        let opened = match take_opened(&mut self.folder, folder) {
+            Some(opened) => opened,
+            None => fs::open(&self.rt, folder)?,
+        };
+        opened.sync_all()?;
+        self.folder = kept_open(alloc, folder, opened);
+        Ok(())
+    }
+}
+
+// The file that is kept open, if it has this path. It is kept no longer: a call that fails leaves nothing open.
+fn take_opened<F: Drop>(slot: &mut Option<Opened<F>>, path: &str) -> Option<F> {
+    match slot.take() {
+        Some(opened) if opened.path.as_str() == path => Some(opened.file),
+        _ => None,
+    }
+}
+
+// An open file with its path. Where there is no memory for the path it is closed, and opened again when it is needed.
+fn kept_open<F: Drop>(alloc: Global, path: &str, file: F) -> Option<Opened<F>> {
+    match String::from_str(alloc, path) {
+        Ok(path) => Some(Opened { path, file }),
+        Err(_) => None,
+    }
+}
+
 /// What a call on a path gave, or none where nothing is there.
 pub fn where_found<T>(answer: io::Result<T>) -> io::Result<Option<T>>
     ensures found { IfOk answer (λ value. result ≡ Ok (Some value)) }
@@ -55,37 +228,6 @@ fn read_from<F: Read + Seek + OpenFile + Drop>(
     Ok(bytes)
 }
 
-/// Makes a file with these bytes where its path is free. Says whether it was. An empty file is whole as soon as it is there;
-/// another one is written under its temporary path and renamed. A temporary file that is left behind is overwritten by the
-/// next call.
-pub fn make_file<R: Files>(rt: &R, temporary: &str, path: &str, bytes: &[u8]) -> io::Result<bool> {
-    if bytes.is_empty() {
-        make_empty(rt, path)
-    } else {
-        make_written(rt, temporary, path, bytes)
-    }
-}
-
-// Makes an empty file. There is nothing in it to be synced: its name is, with the folder.
-fn make_empty<R: Files>(rt: &R, path: &str) -> io::Result<bool> {
-    let folder = folder_of(path);
-    let made = match create_new(rt, path) {
-        Err(error) if error.kind() == ErrorKind::NotFound => {
-            make_folders(rt, folder)?;
-            create_new(rt, path)
-        }
-        answer => answer,
-    };
-    match made {
-        Ok(()) => {
-            sync_folder(rt, folder)?;
-            Ok(true)
-        }
-        Err(error) if error.kind() == ErrorKind::AlreadyExists => Ok(false),
-        Err(error) => Err(error),
-    }
-}
-
 // Makes a file that isn't there, in a folder that is.
 fn create_new<R: Files>(rt: &R, path: &str) -> io::Result<()> {
     OpenOptions::new()
@@ -95,75 +237,8 @@ fn create_new<R: Files>(rt: &R, path: &str) -> io::Result<()> {
     Ok(())
 }
 
-// Makes a file whole under its temporary path, and renames it where its own path is free.
-fn make_written<R: Files>(rt: &R, temporary: &str, path: &str, bytes: &[u8]) -> io::Result<bool> {
-    make_folders(rt, folder_of(temporary))?;
-    write_synced(fs::create(rt, temporary)?, bytes)?;
-    if where_found(fs::symlink_metadata(rt, path))?.is_some() {
-        return Ok(false);
-    }
-    let folder = folder_of(path);
-    make_folders(rt, folder)?;
-    fs::rename(rt, temporary, path)?;
-    sync_folder(rt, folder)?;
-    Ok(true)
-}
-
 // Writes bytes to a file, and sees to it that they outlive a loss of power.
-fn write_synced<F: Write + OpenFile + Drop>(mut file: F, bytes: &[u8]) -> io::Result<()> {
+fn write_synced<F: Write + OpenFile>(file: &mut F, bytes: &[u8]) -> io::Result<()> {
     file.write_all(bytes)?;
     file.sync_all()
-}
-
-/// Adds bytes at the end of a file, and makes it where it is absent.
-pub fn append_bytes<R: Files>(rt: &R, path: &str, bytes: &[u8]) -> io::Result<()> {
-    match where_found(OpenOptions::new().append(true).open(rt, path))? {
-        Some(file) => write_synced(file, bytes),
-        None => append_first(rt, path, bytes),
-    }
-}
-
-// Makes a file of the first bytes that are added to it.
-fn append_first<R: Files>(rt: &R, path: &str, bytes: &[u8]) -> io::Result<()> {
-    let folder = folder_of(path);
-    make_folders(rt, folder)?;
-    write_synced(
-        OpenOptions::new().append(true).create(true).open(rt, path)?,
-        bytes,
-    )?;
-    sync_folder(rt, folder)
-}
-
-/// Removes a file. Says whether it was there.
-pub fn remove_file<R: Files>(rt: &R, path: &str) -> io::Result<bool> {
-    if where_found(fs::remove_file(rt, path))?.is_none() {
-        return Ok(false);
-    }
-    sync_folder(rt, folder_of(path))?;
-    Ok(true)
-}
-
-// Makes a folder, and the missing ones on the way to it from the top.
-fn make_folders<R: Files>(rt: &R, folder: &str) -> io::Result<()> {
-    for end in 1..folder.len() {
-        match folder.split_at_checked(end) {
-            Some((above, rest)) if rest.starts_with('/') => make_folder(rt, above)?,
-            _ => {}
-        }
-    }
-    make_folder(rt, folder)
-}
-
-// Makes a folder where it is missing.
-fn make_folder<R: Files>(rt: &R, folder: &str) -> io::Result<()> {
-    if fs::exists(rt, folder)? {
-        return Ok(());
-    }
-    fs::create_dir(rt, folder)?;
-    sync_folder(rt, folder_of(folder))
-}
-
-// Sees to it that the names in a folder outlive a loss of power.
-fn sync_folder<R: Files>(rt: &R, folder: &str) -> io::Result<()> {
-    fs::open(rt, folder)?.sync_all()
 }

@@ -35,7 +35,7 @@ fn expect_from_nothing<R: Files + AllocGlobal + Clone + Drop + Abort>(
     Ok(faults)
 }
 
-const FILES: [(Call, &str); 23] = [
+const FILES: [(Call, &str); 28] = [
     (Call::List, ""),
     (Call::Read("a", 0, 9), "Absent"),
     (Call::Remove("a"), "Absent"),
@@ -48,7 +48,8 @@ const FILES: [(Call, &str); 23] = [
     (Call::Read("a", 2, 0), ""),
     (Call::Read("a", 5, 1), ""),
     (Call::Read("a", u64::MAX, u64::MAX), ""),
-    (Call::Append("a", "67"), "Added"),
+    (Call::Append("a", "6"), "Added"),
+    (Call::Append("a", "7"), "Added"),
     (Call::Read("a", 0, 9), "1234567"),
     (Call::Append("b/c/d", "x"), "Added"),
     (Call::Read("b/c/d", 0, 9), "x"),
@@ -56,6 +57,10 @@ const FILES: [(Call, &str); 23] = [
     (Call::Remove("a"), "Removed"),
     (Call::Read("a", 0, 9), "Absent"),
     (Call::Remove("a"), "Absent"),
+    (Call::Append("a", "9"), "Added"),
+    (Call::Append("a", "0"), "Added"),
+    (Call::Read("a", 0, 9), "90"),
+    (Call::Remove("a"), "Removed"),
     (Call::Create("a", "8"), "Created"),
     (Call::Read("a", 0, 9), "8"),
     (Call::List, "a 1, b/c/d 1, b/e/f 0, "),

@@ -32,7 +32,7 @@ fn files_and_their_folders_are_synced(rt: HostRuntime) -> Result<(), Fail> {
         (Call::Create("a/e", ""), "sync /s/a\n"),
         (
             Call::Append("c/d", "1"),
-            "make /s/c\nsync /s\nwrite to /s/c/d\nsync /s/c/d\nsync /s/c\n",
+            "make /s/c\nsync /s\nsync /s/c\nwrite to /s/c/d\nsync /s/c/d\n",
         ),
         (Call::Append("c/d", "2"), "write to /s/c/d\nsync /s/c/d\n"),
         (Call::Remove("c/d"), "remove /s/c/d\nsync /s/c\n"),
