@@ -102,13 +102,16 @@ impl<R: Files + Alloc + Clone + Drop> Store for DirStore<R> {
         let Ok(path) = path_of(alloc, self.folder.as_str(), name.as_str()) else {
             return Made::Memory;
         };
-        let Ok(temporary) = path_of(alloc, self.folder.as_str(), TEMPORARY_FILE) else {
-            return Made::Memory;
+        let made = if bytes.is_empty() {
+            self.disk.make_empty(alloc, path.as_str())
+        } else {
+            let Ok(temporary) = path_of(alloc, self.folder.as_str(), TEMPORARY_FILE) else {
+                return Made::Memory;
+            };
+            self.disk
+                .make_written(alloc, temporary.as_str(), path.as_str(), bytes)
         };
-        match self
-            .disk
-            .make_file(alloc, temporary.as_str(), path.as_str(), bytes)
-        {
+        match made {
             Ok(true) => Made::Created,
             Ok(false) => Made::Exists,
             Err(_) => {

@@ -39,25 +39,9 @@ impl<R: Files + Drop> Disk<R> {
         &self.rt
     }
 
-    /// Makes a file with these bytes where its path is free. Says whether it was. An empty file is whole as soon as it is
-    /// there; another one is written under its temporary path and renamed. A temporary file that is left behind is
-    /// overwritten by the next call.
-    pub fn make_file(
-        &mut self,
-        alloc: Global,
-        temporary: &str,
-        path: &str,
-        bytes: &[u8],
-    ) -> io::Result<bool> {
-        if bytes.is_empty() {
-            self.make_empty(alloc, path)
-        } else {
-            self.make_written(alloc, temporary, path, bytes)
-        }
-    }
-
-    // Makes an empty file. There is nothing in it to be synced: its name is, with the folder.
-    fn make_empty(&mut self, alloc: Global, path: &str) -> io::Result<bool> {
+    /// Makes an empty file where its path is free. Says whether it was. Such a file is whole as soon as it is there: nothing
+    /// in it has to be synced, but its name, with the folder.
+    pub fn make_empty(&mut self, alloc: Global, path: &str) -> io::Result<bool> {
         let folder = folder_of(path);
         let made = match create_new(&self.rt, path) {
             Err(error) if error.kind() == ErrorKind::NotFound => {
@@ -76,8 +60,9 @@ impl<R: Files + Drop> Disk<R> {
         }
     }
 
-    // Makes a file whole under its temporary path, and renames it where its own path is free.
-    fn make_written(
+    /// Makes a file whole under its temporary path, and renames it where its own path is free. Says whether it was. A
+    /// temporary file that is left behind is overwritten by the next call.
+    pub fn make_written(
         &mut self,
         alloc: Global,
         temporary: &str,

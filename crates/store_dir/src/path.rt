@@ -7,7 +7,9 @@ use std::alloc::{AllocError, Global};
 pub fn path_of(alloc: Global, folder: &str, name: &str) -> Result<String, AllocError>
     ensures { IfOk result (λ path. string_bytes path ≡ folder.now ++ codes "/" ++ name.now) }
 {
-    let mut path = String::from_str(alloc, folder)?;
+    let len = folder.len().saturating_add(name.len()).saturating_add(1);
+    let mut path = String::with_capacity(alloc, len)?;
+    path.push_str(folder)?;
     path.push('/')?;
     path.push_str(name)?;
     Ok(path)
