@@ -1,6 +1,10 @@
-//! Tests of `row_codec`: contents of data blocks that another writer made, with their refusals, as a table; and a row that
-//! is written, shown as JSON and read back from the cells of a base file.
+//! Tests of `row_codec`, as tables: contents of data blocks that another writer made and cells of base files, with
+//! their refusals; and a row that is written, shown as JSON and read back from the cells of a base file.
 #![tactic(auto)]
 
 #[cfg(test)]
+mod cells;
+#[cfg(test)]
 mod contents;
+#[cfg(test)]
+mod table;

@@ -1,4 +1,4 @@
-use Rattle.codec_tests.proofs.contents.row_of.Goals as goal
+use Rattle.codec_tests.proofs.table.row_of.Goals as goal
 
 pub returns : goal.returns
 returns c = let told = c.in_ok-row.ensures in (told.0, told.3.0)
