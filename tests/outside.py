@@ -24,7 +24,8 @@ import sys
 import time
 from datetime import datetime, timezone
 
-from script_model import LEAST, MOST, answer_rows, block, changes_of, read_script, run, timeline_name
+from script_model import (LEAST, MOST, answer_rows, block, changes_of, completed_text, inflight_text, read_script, run,
+                          timeline_name)
 
 # Pieces of keys and bodies: quotes, backslashes, controls, NUL, one and the same letter composed and combining, signs
 # of two to four bytes, the marks that some readers take for line ends or drop, and the greatest code point.
@@ -131,16 +132,16 @@ def front_of(script, folder):
     found, whole = files_in(folder), {}
     changes = changes_of(content_of(script), clock_of(found) or [0])
     done = 0
-    for name, data in changes:
+    for name, data, _ in changes:
         if name not in found or not found[name].startswith(data, len(whole.get(name, b""))):
             break
         whole[name] = whole.get(name, b"") + data
         done += 1
     rest = b""
     if done < len(changes):
-        name, data = changes[done]
+        name, data, made = changes[done]
         rest = found.get(name, b"")[len(whole.get(name, b"")):]
-        assert data.startswith(rest), f"no front of step {done}: {name}"
+        assert data.startswith(rest) and not (made and name in found), f"no front of step {done}: {name}"
         if rest:
             whole[name] = whole.get(name, b"") + rest
     check_files(found, whole)
@@ -192,7 +193,9 @@ def check_failed(script, output, folder):
                 check_block(found, int(mark[5]), int(mark[6]), block(began[0], job.rows))
         if words[2] == b"committed":
             done_at = milliseconds(words[3])
-            assert began == [done_at] and timeline_name(done_at, b"") in found, f"line {job.line} isn't completed"
+            assert began == [done_at] and found.get(timeline_name(done_at, b"")) == completed_text(job.rows), \
+                f"line {job.line} isn't completed"
+            assert found.get(timeline_name(done_at, b".inflight")) == inflight_text(), f"line {job.line} claims nothing"
             commits.append((done_at, job.rows))
         else:
             assert words[2] == b"fault" and any(mark[4] == b"fault" for mark in mine), f"line {line}"

@@ -20,7 +20,7 @@ USAGE = b"usage: hudi DIR run LANES\n"
 
 Ending = namedtuple("Ending", "status text files calls")
 Job = namedtuple("Job", "line rows")  # a snapshot has no rows
-Change = namedtuple("Change", "name bytes")  # a file is made, without bytes, or grows by some
+Change = namedtuple("Change", "name bytes made")  # a file is made with these bytes, or grows by them
 
 
 # ---- the language
@@ -114,10 +114,32 @@ def timeline_name(time, state):
     return b".hoodie/" + time_text(time) + b".deltacommit" + state
 
 
+def file_id():
+    """The one group of the table, which has all slots and was there at the beginning."""
+    tail = str(uuid.uuid5(uuid.NAMESPACE_URL, (TABLE + b"/" + PARTITION).decode()))[9:].encode()
+    return b"0000ffff-" + tail + b"-0"
+
+
 def log_name(version):
     """The log of a version. Each version but the first stands for an append that failed, which took an attempt."""
-    tail = str(uuid.uuid5(uuid.NAMESPACE_URL, (TABLE + b"/" + PARTITION).decode()))[9:].encode()
-    return (PARTITION + b"/.0000ffff-" + tail + b"-0_" + time_text(FIRST_TIME) + b".log.%d_0-0-%d" % (version, version - 1))
+    return PARTITION + b"/." + file_id() + b"_" + time_text(FIRST_TIME) + b".log.%d_0-0-%d" % (version, version - 1)
+
+
+def metadata(**members):
+    return json.dumps(members, sort_keys=True, separators=(",", ":")).encode()
+
+
+def claim(**more):
+    """The slice that an upsert writes to, as metadata names it."""
+    return dict(base=time_text(FIRST_TIME).decode(), file=file_id().decode(), partition=PARTITION.decode(), **more)
+
+
+def inflight_text():
+    return metadata(groups=[claim()])
+
+
+def completed_text(rows):
+    return metadata(checkpoint=None, groups=[claim(writes=len(rows))])
 
 
 def sized(data):
@@ -193,18 +215,18 @@ class Store:
         self.calls += 1
         return self.calls - 1 in self.failing
 
-    def create(self, name):
+    def create(self, name, data):
         if self.fails():
             raise Fault
-        self.files[name] = b""
-        self.changes.append(Change(name, b""))
+        self.files[name] = data
+        self.changes.append(Change(name, data, True))
 
     def append(self, name, data):
         fails = self.fails()
         left = data[:self.prefix] if fails else data
         if left:
             self.files[name] = self.files.get(name, b"") + left
-            self.changes.append(Change(name, left))
+            self.changes.append(Change(name, left, False))
         if fails:
             raise Fault
 
@@ -233,7 +255,7 @@ class Table:
             return b"time_over"
         time = max(self.greatest + 1, min(self.clock.now(), LAST_TIME))
         try:
-            self.store.create(timeline_name(time, b".requested"))
+            self.store.create(timeline_name(time, b".requested"), b"")
         except Fault:
             self.mark(job, b"begin", b"fault")
             return b"fault"
@@ -243,7 +265,7 @@ class Table:
 
     def write(self, job, time):
         try:
-            self.store.create(timeline_name(time, b".inflight"))
+            self.store.create(timeline_name(time, b".inflight"), inflight_text())
         except Fault:
             self.mark(job, b"enter", b"fault")
             return self.leave(job, time)
@@ -259,7 +281,7 @@ class Table:
         self.logs[-1] += data
         self.mark(job, b"append", b"placed", version, placed)
         try:
-            self.store.create(timeline_name(time, b""))
+            self.store.create(timeline_name(time, b""), completed_text(job.rows))
         except Fault:
             self.mark(job, b"finish", b"fault")
             return self.leave(job, time)

@@ -8,6 +8,8 @@ mod lanes;
 #[cfg(test)]
 mod marks;
 #[cfg(test)]
+mod metadata;
+#[cfg(test)]
 mod steps;
 #[cfg(test)]
 mod telling;

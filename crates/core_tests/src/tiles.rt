@@ -13,7 +13,7 @@ use std::fmt::Write;
 use std::test::Fail;
 use table_core::Control;
 use table_forms::is_partition_path;
-use table_history::{Job, PartitionSlots, Reply, Step};
+use table_history::{Decision, Job, PartitionSlots, Reply, Step};
 
 const JOB: Job = Job { lane: 1, line: 1 };
 
@@ -54,6 +54,18 @@ fn tell_targets(targets: &[Target], out: &mut String) -> Result<(), AllocError> 
     Ok(())
 }
 
+/// What is decided of an Enter of these slots.
+pub(crate) fn decide_wide(
+    alloc: Global,
+    control: &Control,
+    t: InstantTime,
+) -> Result<Decision, AllocError>
+    requires { HasInstant IsDrawn control.now JOB t }
+{
+    let slots = wide_slots(alloc)?;
+    control.decide(alloc, JOB, &Step::Enter { t, slots }, NOW)
+}
+
 fn enter_wide(
     alloc: Global,
     control: &Control,
@@ -62,8 +74,7 @@ fn enter_wide(
 ) -> Result<(), AllocError>
     requires { HasInstant IsDrawn control.now JOB t }
 {
-    let slots = wide_slots(alloc)?;
-    let decision = control.decide(alloc, JOB, &Step::Enter { t, slots }, NOW)?;
+    let decision = decide_wide(alloc, control, t)?;
     match &decision.reply {
         Reply::Entered(targets) => tell_targets(targets.as_slice(), out),
         _ => Err(AllocError),

@@ -88,8 +88,8 @@ closed_now A H j u v checkpoint P same owns = by (instant_of A H v) refl (subst 
     by : (o : Option Instant) → instant_of A H v ≡ o → IsSomeAnd o (λ i. (i.owner ≡ Some j) × P i) → IsClosed A (entry j (Finish u checkpoint) (reply.Completed v) ∷ H) v
     by None is mine = absurd mine
     by (Some i) is mine = record {
-      i = completed_with (completions A H) i;
-      is = ap (λ b. cond b (option_map (completed_with (completions A H)) (instant_of A H v)) (instant_of A H v)) (same_number u v (sym same)) ∙ ap (option_map (completed_with (completions A H))) is;
+      i = completed_with (completions A H) checkpoint i;
+      is = ap (λ b. cond b (option_map (completed_with (completions A H) checkpoint) (instant_of A H v)) (instant_of A H v)) (same_number u v (sym same)) ∙ ap (option_map (completed_with (completions A H) checkpoint)) is;
       closed = refl;
     }
 

@@ -114,7 +114,7 @@ module _ (A : Table) (H : History) (j : Job) (u n : ℕ) (plain : ArePlain A (in
       changed A t u (with_block target writes bytes) (t == u) o refl
       (λ i same is before. with_one A i target writes bytes (inflight_of (instant_of A H t) j target i may (ap (instant_of A H) same ∙ is)) before) plain
   plain_then (Finish t checkpoint) (reply.Completed v) may answers =
-      changed A t u (completed n) (t == u) o refl
+      changed A t u (completed n checkpoint) (t == u) o refl
       (λ i same is before. record { targets = before.targets; blocks = λ requested. absurd (not_completed requested) }) plain
   plain_then (Abandon t) reply.Done may answers = changed A t u abandoned (t == u) o refl (λ i same is. kept A abandoned i refl refl refl) plain
   plain_then (Enter t slots) reply.Fault may answers = failed_at t

@@ -123,7 +123,7 @@ module _ (form : BlockForm) (A : Table) (H : History) (opened : IsOpened A) (j :
   same_writes (Enter t slots) (reply.Entered targets) other may answers =
       changed form (entered targets) (t == u) o
       (λ i here is. had_none form i targets (requested_none form A (instant_of A H t) j i may.0 (plain t) (at_other t here ∙ is)))
-  same_writes (Finish t checkpoint) (reply.Completed v) other may answers = changed form (completed n) (t == u) o (λ i here is. refl)
+  same_writes (Finish t checkpoint) (reply.Completed v) other may answers = changed form (completed n checkpoint) (t == u) o (λ i here is. refl)
   same_writes (Abandon t) reply.Done other may answers = changed form abandoned (t == u) o (λ i here is. refl)
   same_writes (Enter t slots) reply.Fault other may answers = failed_at t
   same_writes (Enter t slots) (reply.Damaged name cause) other may answers = failed_at t

@@ -72,7 +72,8 @@ pieced : (A : Table) (H : History) (s : Step) (r : Reply) (bytes : List ℕ) (ol
     → new ≡ after_op old (operation A H s (reply.Piece bytes))
 pieced A H Begin (reply.Began t) bytes old new end is = absurd end
 pieced A H Begin _ bytes old new end is = absurd end
-pieced A H (Enter t slots) r bytes old new end is = absurd end
+pieced A H (Enter t slots) (reply.Entered targets) bytes old new end is = absurd end
+pieced A H (Enter t slots) _ bytes old new end is = absurd end
 pieced A H (Append t target writes block) r bytes old new end is = absurd (append_reads_nothing A H block bytes (target_at A H t target) end)
 pieced A H (Finish t checkpoint) r bytes old new end is = absurd end
 pieced A H (Read (reader.Pin pin) file at len) r bytes old new end is = is ∙ sym (read_changes_nothing old at len (part_read H (reader.Pin pin) file))
@@ -101,8 +102,9 @@ faulted : (honest : Type 0) (A : Table) (H : History) (s : Step) (r : Reply) (ol
 faulted honest A H Begin (reply.Began t) old new end leaves =
     record { files = leaves.files; operations = leaves.operations; first = leaves.first; leaves = leaves.leaves }
 faulted honest A H Begin _ old new end leaves = absurd end
-faulted honest A H (Enter t slots) r old new end leaves =
+faulted honest A H (Enter t slots) (reply.Entered targets) old new end leaves =
     record { files = leaves.files; operations = leaves.operations; first = leaves.first; leaves = leaves.leaves }
+faulted honest A H (Enter t slots) _ old new end leaves = absurd end
 faulted honest A H (Append t target writes bytes) r old new end leaves = fault_append honest A H bytes old new (target_at A H t target) end leaves
 faulted honest A H (Finish t checkpoint) r old new end leaves =
     record { files = leaves.files; operations = leaves.operations; first = leaves.first; leaves = leaves.leaves }

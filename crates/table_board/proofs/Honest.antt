@@ -147,7 +147,8 @@ faulted : (honest : Type 0) (A : Table) (H : History) (s : Step) (r : Reply) (ol
     → IsFault A H old new s
 faulted honest A H step.Begin (reply.Began t) old new h ends leaves = nothing_failed A H old new step.Begin (leaves.leaves h)
 faulted honest A H step.Begin _ old new h ends leaves = absurd ends
-faulted honest A H (step.Enter t slots) r old new h ends leaves = nothing_failed A H old new (step.Enter t slots) (leaves.leaves h)
+faulted honest A H (step.Enter t slots) (reply.Entered targets) old new h ends leaves = nothing_failed A H old new (step.Enter t slots) (leaves.leaves h)
+faulted honest A H (step.Enter t slots) _ old new h ends leaves = absurd ends
 faulted honest A H (step.Append t target writes bytes) r old new h ends leaves = append_failed honest A H old new t target writes bytes (target_at A H t target) refl h ends leaves
 faulted honest A H (step.Finish t checkpoint) r old new h ends leaves = nothing_failed A H old new (step.Finish t checkpoint) (leaves.leaves h)
 faulted honest A H (step.Read from file at len) r old new h ends leaves =
@@ -158,14 +159,15 @@ faulted honest A H (step.Abandon t) r old new h ends leaves = absurd ends
 
 -- ---- the files that the table knows
 
+nothing_removed : (name : List ℕ) → op.Nothing ≡ op.Remove name → ⊥
+nothing_removed name is = cc
+
 -- what no operation of a step is
 no_removal : (A : Table) (H : History) (s : Step) (r : Reply) (name : List ℕ) → operation A H s r ≡ op.Remove name → ⊥
 no_removal A H step.Begin (reply.Began t) name is = cc
-no_removal A H step.Begin _ name is = nothing_removed is
-  where
-    nothing_removed : op.Nothing ≡ op.Remove name → ⊥
-    nothing_removed is = cc
-no_removal A H (step.Enter t slots) r name is = cc
+no_removal A H step.Begin _ name is = nothing_removed name is
+no_removal A H (step.Enter t slots) (reply.Entered targets) name is = cc
+no_removal A H (step.Enter t slots) _ name is = nothing_removed name is
 no_removal A H (step.Append t target writes bytes) r name is = appends_none (target_at A H t target) is
   where
     appends_none : (o : Option Target) → appends A H bytes o ≡ op.Remove name → ⊥
@@ -281,7 +283,8 @@ module _ (work : Work) (A : Table) (H : History) (files : FileMap) (before : Lis
       → IsShown A H old new s (reply.Piece bytes)
   pieced step.Begin (reply.Began t) bytes honest may ends leaves = absurd ends
   pieced step.Begin _ bytes honest may ends leaves = absurd ends
-  pieced (step.Enter t slots) r bytes honest may ends leaves = absurd ends
+  pieced (step.Enter t slots) (reply.Entered targets) bytes honest may ends leaves = absurd ends
+  pieced (step.Enter t slots) _ bytes honest may ends leaves = absurd ends
   pieced (step.Append t target writes block) r bytes honest may ends leaves = absurd (append_reads_nothing A H block bytes (target_at A H t target) ends)
   pieced (step.Finish t checkpoint) r bytes honest may ends leaves = absurd ends
   pieced (step.Read from file at len) r bytes honest may ends leaves = piece_of from file at len r bytes honest (part_read H from file) refl may ends leaves

@@ -93,7 +93,7 @@ one_owned t n k j (Enter u slots) _ o us before is = before is
 one_owned t n k j (Append u target writes bytes) (reply.Placed version at) o us before is = before (sym (kept (with_block target writes bytes) (λ i. refl) (u == t) o) ∙ is)
 one_owned t n k j (Append u target writes bytes) reply.Fault o us before is = before (sym (kept failed (λ i. refl) (u == t) o) ∙ is)
 one_owned t n k j (Append u target writes bytes) _ o us before is = before is
-one_owned t n k j (Finish u checkpoint) (reply.Completed v) o us before is = taken (completed n) (λ i. refl) u t (u == t) o j us refl before is
+one_owned t n k j (Finish u checkpoint) (reply.Completed v) o us before is = taken (completed n checkpoint) (λ i. refl) u t (u == t) o j us refl before is
 one_owned t n k j (Finish u checkpoint) reply.Fault o us before is = before (sym (kept failed (λ i. refl) (u == t) o) ∙ is)
 one_owned t n k j (Finish u checkpoint) (reply.Damaged name cause) o us before is = before (sym (kept failed (λ i. refl) (u == t) o) ∙ is)
 one_owned t n k j (Finish u checkpoint) _ o us before is = before is

@@ -109,7 +109,8 @@ damaged_answers : (A : Table) (H : History) (s : Step) (r : Reply) (name : List 
     → Answers A H s (reply.Damaged name cause)
 damaged_answers A H Begin (reply.Began t) name cause end = end
 damaged_answers A H Begin _ name cause end = absurd end
-damaged_answers A H (Enter t slots) r name cause end = end
+damaged_answers A H (Enter t slots) (reply.Entered targets) name cause end = end
+damaged_answers A H (Enter t slots) _ name cause end = absurd end
 damaged_answers A H (Append t target writes bytes) r name cause end = absurd (append_ends_whole A H bytes cause (target_at A H t target) end)
 damaged_answers A H (Finish t checkpoint) r name cause end = end
 damaged_answers A H (Read (reader.Pin pin) file at len) r name Missing end = tt
@@ -123,7 +124,8 @@ piece_answers : (A : Table) (H : History) (s : Step) (r : Reply) (bytes : List �
     → Answers A H s (known_reply A H s (reply.Piece bytes))
 piece_answers A H Begin (reply.Began t) bytes end = absurd end
 piece_answers A H Begin _ bytes end = absurd end
-piece_answers A H (Enter t slots) r bytes end = absurd end
+piece_answers A H (Enter t slots) (reply.Entered targets) bytes end = absurd end
+piece_answers A H (Enter t slots) _ bytes end = absurd end
 piece_answers A H (Append t target writes block) r bytes end = absurd (append_reads_nothing A H block bytes (target_at A H t target) end)
 piece_answers A H (Finish t checkpoint) r bytes end = absurd end
 piece_answers A H (Read (reader.Pin pin) file at len) r bytes end = known_is_read A H at len file (pin_of H pin)
@@ -209,7 +211,7 @@ piece_room : (A : Table) (H : History) (control : Control) (s : Step) (r : Reply
     → HasRoom control s (reply.Piece bytes)
 piece_room A H control (Append t target writes block) r bytes end = absurd (append_reads_nothing A H block bytes (target_at A H t target) end)
 piece_room A H control (Enter t slots) r bytes end = tt
-piece_room A H control (Finish t checkpoint) r bytes end = tt
+piece_room A H control (Finish t checkpoint) r bytes end = absurd end
 piece_room A H control (Pin at bases_only) r bytes end = tt
 piece_room A H control _ r bytes end = tt
 

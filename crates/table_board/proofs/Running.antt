@@ -32,7 +32,7 @@ use Rattle.table_history.specs.declared.step.Step.{Step}
 use Rattle.table_history.specs.declared.step.Step.TheVariants as step
 use Rattle.table_images.specs.Blocks.{HoldsBlocks}
 use Rattle.table_images.specs.Kept.{IsCurrent, Kept}
-use Rattle.table_images.specs.Runs.{MayCome, NamesFit, files_after, log_in_use, operations_of, whole}
+use Rattle.table_images.specs.Runs.{MayCome, NamesFit, NumbersFit, files_after, log_in_use, operations_of, whole}
 use Rattle.table_images.specs.Stands.{IsJustOpened, StandsFor}
 use Rattle.table_images.specs.StoreRuns.{IsRunOn}
 use Rattle.table_images.proofs.GoesOn.{begins, goes_on, told_images}
@@ -251,6 +251,12 @@ names_of A H image c j (step.Append t target writes bytes) r tables session kept
     subst (λ (o : Option Target). IfSome o (λ s. IsNamed (log_in_use A H s))) (sym to.at) (named_in A H c to.s (length bytes) tables session to.current slot room.decided.1)
 names_of A H image c j _ r tables session kept room time may = tt
 
+-- the numbers in metadata fit
+pub numbers_of : (A : Table) (H : History) (c : Control) (s : Step) (r : Reply) → IsControl A H c → HasRoomFor c s r → NumbersFit A H s
+numbers_of A H c (step.Append t target writes bytes) r tables room = subst (λ n. n + writes < 2 ^ 32) (tables.writes t target) room.decided.2.1
+numbers_of A H c (step.Finish t checkpoint) r tables room = room.decided.1
+numbers_of A H c _ r tables room = tt
+
 pub names_after : (A : Table) (H : History) (s : Step) (r : Reply) (o : Outcome) (p : Op) → NamesFit A H s r → NamesFit A H s (reply_after o p r)
 names_after A H s r Done p names = names
 names_after A H step.Begin r (Piece bytes) p names = tt
@@ -279,6 +285,7 @@ acted_more work A H c j s now d o r honest old new tables session room time deci
     next = next_known A (known_entries A H) H (record { job = j; step = s; reply = r }) runs.known shown_r.known next;
     allowed = law;
     names = subst (NamesFit A H s) (sym is) (names_after A H s d.reply o d.op names);
+    numbers = numbers_of A H c s d.reply (tables H (sym runs.known)) room;
   };
 }
   where
@@ -306,11 +313,11 @@ pub left_more : (work : Work) (A : Table) (H : History) (j : Job) (s : Step) (ol
     → (files : FileMap) (os : List Operation) → RunsTrue work A files os old H → IsMore work A H old old (record { job = j; step = s; reply = reply.Done })
 left_more work A H j (step.Unpin pin) old leaves next law files os runs = record {
   shown = record { did = None; told = refl; does = refl; possible = λ files is. tt; known = refl; undamaged = tt };
-  comes = record { next = next_known A (known_entries A H) H (record { job = j; step = step.Unpin pin; reply = reply.Done }) runs.known refl next; allowed = law; names = tt };
+  comes = record { next = next_known A (known_entries A H) H (record { job = j; step = step.Unpin pin; reply = reply.Done }) runs.known refl next; allowed = law; names = tt; numbers = tt };
 }
 left_more work A H j (step.Abandon t) old leaves next law files os runs = record {
   shown = record { did = None; told = refl; does = refl; possible = λ files is. tt; known = refl; undamaged = tt };
-  comes = record { next = next_known A (known_entries A H) H (record { job = j; step = step.Abandon t; reply = reply.Done }) runs.known refl next; allowed = law; names = tt };
+  comes = record { next = next_known A (known_entries A H) H (record { job = j; step = step.Abandon t; reply = reply.Done }) runs.known refl next; allowed = law; names = tt; numbers = tt };
 }
 left_more work A H j _ old leaves next law files os runs = absurd leaves
 

@@ -60,6 +60,7 @@ quiet_read A H control j from file at len r is quiet = record {
   last = is.last ∙ sym (same_last (greatest_time A H) r quiet);
   completed = is.completed ∙ sym (same_completed A H j (Read from file at len) r quiet);
   targets = is.targets;
+  writes = is.writes;
   slices = λ s. slice_after A H _ s _ (same_slice A H (record { job = j; step = Read from file at len; reply = r }) s refl) (is.slices s);
   attempts = is.attempts ∙ sym (add-zero (attempts A H));
   pins = is.pins;

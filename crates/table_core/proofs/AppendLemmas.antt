@@ -1,21 +1,25 @@
 -- What appends change in the tables.
-use Rattle.std.proofs.Common.{◌≡◌, ◌<◌, ◌+◌, ◌==◌, ℕ, Bool, true, false, cond, List, [], ◌∷◌, Some, length, refl, sym, ap, ◌∙◌, subst, arith, add-zero}
+use Rattle.std.proofs.Common.{◌≡◌, ◌<◌, ◌+◌, ◌==◌, ℕ, Bool, true, false, cond, List, [], ◌∷◌, Option, Some, None, option_map, length, refl, sym, ap, ◌∙◌, subst, arith, add-zero, zero, suc}
 use Rattle.std.specs.Option.{option_map_or}
-use Rattle.std.specs.Prelude.{slice_get, ◌&&◌}
+use Rattle.std.specs.Prelude.{slice_get, IsSomeAnd, ◌&&◌}
 use Rattle.std.proofs.lemmas.Bool.Decides.{nat_tests}
 use Rattle.hudi_base.specs.declared.file_group.Target.{Target}
-use Rattle.table_core.specs.ControlTables.{IsControl, IsSlice, IsInUse, targets_in, slice_at, slice_in}
+use Rattle.file_names.specs.declared.file_name.State.TheVariants as state
+use Rattle.table_core.specs.ControlTables.{IsControl, IsSlice, IsInUse, targets_in, writes_at, writes_in, slice_at, slice_in}
+use Rattle.table_core.specs.Keys.{is_number}
 use Rattle.table_core.specs.KeyLaws.{target_is}
 use Rattle.table_core.specs.SliceStates.{SliceState, TakesBlock, GivesUp, names_tried}
 use Rattle.table_core.specs.declared.control.Control.{Control}
 use Rattle.table_core.specs.declared.rooms.Rooms.{Rooms}
-use Rattle.table_core.proofs.Taken.{slice_after, same_last, kept}
+use Rattle.table_core.specs.declared.written.TargetNumber.{TargetNumber}
+use Rattle.table_core.proofs.Taken.{slice_after, same_last, kept, kept_in}
 use Rattle.table_history.proofs.Apart.{same_slice}
-use Rattle.table_history.specs.Answers.{AppendAnswers}
+use Rattle.table_history.specs.Answers.{AppendAnswers, May}
 use Rattle.table_history.specs.Histories.{History}
 use Rattle.table_history.specs.Instants.{instant_of, with_block, failed}
 use Rattle.table_history.specs.Logs.{target_at, goes_to, greatest_version, failures, version_in_use, known_length, is_unused, attempts, opened_at, logs_of, lengthened}
-use Rattle.table_history.specs.Tables.{Table}
+use Rattle.table_history.specs.Metadata.{writes_among}
+use Rattle.table_history.specs.Tables.{Table, Instant}
 use Rattle.table_history.specs.Targets.{is_target}
 use Rattle.table_history.specs.Times.{greatest_time}
 use Rattle.table_history.specs.declared.entry.Entry.{Entry}
@@ -140,14 +144,92 @@ at_control A H control t target s is at = ap (λ targets. slice_get targets targ
 numbered : (A : Table) (H : History) (t target version at : ℕ) (s : Target) → target_at A H t target ≡ Some s → AppendAnswers A H t target (Placed version at) → version ≡ version_in_use A H s
 numbered A H t target version at s here answers = let found = rw here at answers in found.0
 
-pub placed_taken : (A : Table) (H : History) (control : Control) (job : Job) (t target writes : ℕ) (bytes : List ℕ) (version at tried : ℕ) (s : Target) (slices : Rooms Target SliceState)
+-- ---- the writes of a target
+
+abbrev counted : Option Instant → ℕ → ℕ
+counted o k = option_map_or (λ i. writes_among k i.blocks) o 0
+
+-- the writes of a block were added at its target
+abbrev pub AddsWrites : Control → ℕ → ℕ → ℕ → Rooms TargetNumber ℕ → Type 0
+AddsWrites control t target writes counts =
+    (q : TargetNumber) → writes_at counts q ≡ cond (is_number (record { t = t; number = target }) q) (writes_in control t target + writes) (writes_at control.writes q)
+
+record HasInstant (o : Option Instant) : Type 0 where
+  i : Instant
+  is : o ≡ Some i
+
+-- an instant with a target is there
+has_instant : (o : Option Instant) (target : ℕ) (s : Target) → slice_get (option_map_or (λ i. i.targets) o []) target ≡ Some s → HasInstant o
+has_instant None target s at = absurd (none_at target at)
+  where
+    none_at : (n : ℕ) → slice_get [] n ≡ Some s → ⊥
+    none_at n is = cc
+has_instant (Some i) target s at = record { i = i; is = refl }
+
+with_writes : (i : Instant) (o : Option Instant) (target writes k : ℕ) (bytes : List ℕ) (c : Bool) → o ≡ Some i → (target == k) ≡ c
+    → counted (option_map (with_block target writes bytes) o) k ≡ cond c (counted o k + writes) (counted o k)
+with_writes i None target writes k bytes c is test = absurd cc
+with_writes i (Some j) target writes k bytes true is test = ap (λ b. writes_among k j.blocks + cond b writes 0) test
+with_writes i (Some j) target writes k bytes false is test = ap (λ b. writes_among k j.blocks + cond b writes 0) test ∙ add-zero (writes_among k j.blocks)
+
+writes_placed : (A : Table) (H : History) (control : Control) (t target writes : ℕ) (bytes : List ℕ) (counts : Rooms TargetNumber ℕ) (i : Instant) → IsControl A H control
+    → instant_of A H t ≡ Some i → AddsWrites control t target writes counts → (q k : ℕ)
+    → writes_in (record control { writes = counts }) q k ≡ counted (cond (t == q) (option_map (with_block target writes bytes) (instant_of A H q)) (instant_of A H q)) k
+writes_placed A H control t target writes bytes counts i is some adds q k = by (t == q) refl (target == k) refl
+  where
+    sum : ℕ
+    sum = writes_in control t target + writes
+
+    f : Instant → Instant
+    f = with_block target writes bytes
+
+    after : Bool → ℕ
+    after b = counted (cond b (option_map f (instant_of A H q)) (instant_of A H q)) k
+
+    added : (b c : Bool) → (t == q) ≡ b → (target == k) ≡ c → writes_in (record control { writes = counts }) q k ≡ cond (b && c) sum (writes_in control q k)
+    added b c one two = adds (record { t = q; number = k }) ∙ ap (λ b. cond (b && (target == k)) sum (writes_in control q k)) one ∙ ap (λ c. cond (b && c) sum (writes_in control q k)) two
+
+    equal : (m n : ℕ) → (m == n) ≡ true → m ≡ n
+    equal m n h = grind (arith, nat_tests)
+
+    here : t ≡ q → instant_of A H q ≡ Some i
+    here same = ap (instant_of A H) (sym same) ∙ some
+
+    by : (b : Bool) → (t == q) ≡ b → (c : Bool) → (target == k) ≡ c → writes_in (record control { writes = counts }) q k ≡ after (t == q)
+    by false one c two = added false c one two ∙ is.writes q k ∙ sym (ap after one)
+    by true one true two =
+        added true true one two ∙ ap (λ n. n + writes) (is.writes t target ∙ ap (λ q. counted (instant_of A H q) target) (equal t q one) ∙ ap (counted (instant_of A H q)) (equal target k two))
+        ∙ sym (with_writes i (instant_of A H q) target writes k bytes true (here (equal t q one)) two) ∙ sym (ap after one)
+    by true one false two =
+        added true false one two ∙ is.writes q k
+        ∙ sym (with_writes i (instant_of A H q) target writes k bytes false (here (equal t q one)) two) ∙ sym (ap after one)
+
+-- an append has a target
+pub no_target : (A : Table) (H : History) (control : Control) (job : Job) (t target writes : ℕ) (bytes : List ℕ) → IsControl A H control → May A H job (Append t target writes bytes)
+    → slice_get (targets_in control t) target ≡ None → ⊥
+no_target A H control job t target writes bytes is may none =
+    missing (instant_of A H t) may (ap (λ targets. slice_get targets target) (sym (is.targets t)) ∙ none)
+  where
+    beyond : (xs : List Target) (n : ℕ) → n < length xs → slice_get xs n ≡ None → ⊥
+    beyond [] n within none = omega (arith, within)
+    beyond (x ∷ xs) zero within none = cc
+    beyond (x ∷ xs) (suc n) within none = beyond xs n (omega (arith, within)) none
+
+    missing : (o : Option Instant) → IsSomeAnd o (λ i. (i.owner ≡ Some job) × ((i.state ≡ state.Inflight) × (target < length i.targets)))
+        → slice_get (option_map_or (λ i. i.targets) o []) target ≡ None → ⊥
+    missing None may none = may
+    missing (Some i) may none = beyond i.targets target may.1.1 none
+
+pub placed_taken : (A : Table) (H : History) (control : Control) (job : Job) (t target writes : ℕ) (bytes : List ℕ) (version at tried : ℕ) (s : Target) (slices : Rooms Target SliceState) (counts : Rooms TargetNumber ℕ)
     → IsControl A H control → slice_get (targets_in control t) target ≡ Some s → AppendAnswers A H t target (Placed version at)
     → TakesBlock (slice_in control s) (slice_at slices s) control.session control.attempts (length bytes)
     → ((q : Target) → is_target s q ≡ false → slice_at slices q ≡ slice_in control q) → tried ≡ names_tried (slice_in control s)
-    → IsControl A (placed_entry job t target writes bytes version at ∷ H) (record control { slices = slices; attempts = control.attempts + tried })
-placed_taken A H control job t target writes bytes version at tried s slices is here answers takes others names =
+    → AddsWrites control t target writes counts
+    → IsControl A (placed_entry job t target writes bytes version at ∷ H) (record control { writes = counts; slices = slices; attempts = control.attempts + tried })
+placed_taken A H control job t target writes bytes version at tried s slices counts is here answers takes others names adds =
     let e = placed_entry job t target writes bytes version at in
     let place = at_control A H control t target s is here in
+    let found = has_instant (instant_of A H t) target s place in
     let right = numbered A H t target version at s place answers in
     record {
       opened = is.opened;
@@ -158,6 +240,7 @@ placed_taken A H control job t target writes bytes version at tried s slices is 
       last = is.last ∙ sym (same_last (greatest_time A H) Done tt);
       completed = is.completed;
       targets = λ q. is.targets q ∙ sym (kept (with_block target writes bytes) (λ i. refl) (t == q) (instant_of A H q));
+      writes = λ q k. writes_placed A H control t target writes bytes counts found.i is found.is adds q k;
       slices = λ q. one_slice A H (e ∷ H) t target s q control.slices slices place
           (λ q goes same. moved q same goes right takes)
           (λ q apart. slice_after A H (e ∷ H) q _ (same_slice A H e q apart) (is.slices q))
@@ -190,6 +273,7 @@ failed_taken A H control job t target writes bytes tried s slices is here gives 
       last = is.last ∙ sym (same_last (greatest_time A H) Done tt);
       completed = is.completed;
       targets = λ q. is.targets q ∙ sym (kept failed (λ i. refl) (t == q) (instant_of A H q));
+      writes = λ q k. is.writes q k ∙ sym (kept_in (λ i. writes_among k i.blocks) 0 failed (λ i. refl) (t == q) (instant_of A H q));
       slices = λ q. one_slice A H (e ∷ H) t target s q control.slices slices place
           (λ q goes same. moved q same goes gives)
           (λ q apart. slice_after A H (e ∷ H) q _ (same_slice A H e q apart) (is.slices q))

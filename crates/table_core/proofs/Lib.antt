@@ -7,3 +7,4 @@ pub mod Taken
 pub mod ViewLemmas
 pub mod TileLemmas
 pub mod SeenGroups
+pub mod WrittenLemmas

@@ -50,6 +50,7 @@ pinned_taken A H control job at bases_only view pins left is files put = record 
   last = is.last ∙ sym (same_last (greatest_time A H) Done tt);
   completed = is.completed;
   targets = is.targets;
+  writes = is.writes;
   slices = λ s. slice_after A H _ s _ (same_slice A H (record { job = job; step = Pin at bases_only; reply = Pinned view }) s refl) (is.slices s);
   attempts = is.attempts ∙ sym (add-zero (attempts A H));
   pins = elim [ reader.Pin q ↦ λ file. pinned_part (view.pin == q) control.pinning (found nat_cmp control.pins q) (found nat_cmp pins q) job view (pin_of H q) file files (put q) (is.pins (reader.Pin q) file) ];
@@ -68,6 +69,7 @@ unpinned_taken A H control job pin pins is gone = record {
   last = is.last ∙ sym (same_last (greatest_time A H) Done tt);
   completed = is.completed;
   targets = is.targets;
+  writes = is.writes;
   slices = λ s. slice_after A H _ s _ (same_slice A H (record { job = job; step = Unpin pin; reply = Done }) s refl) (is.slices s);
   attempts = is.attempts ∙ sym (add-zero (attempts A H));
   pins = elim [ reader.Pin q ↦ λ file. unpinned_part (pin == q) (found nat_cmp control.pins q) (found nat_cmp pins q) (pin_of H q) file (gone q) (is.pins (reader.Pin q) file) ];

@@ -3,7 +3,7 @@ use Rattle.std.proofs.Common.{◌≡◌, ◌<◌, ◌==◌, ℕ, Bool, true, fal
 use Rattle.std.specs.Option.{option_map_or}
 use Rattle.std.proofs.lemmas.Bool.Decides.{nat_tests}
 use Rattle.hudi_base.specs.declared.file_group.Target.{Target}
-use Rattle.table_core.specs.ControlTables.{IsControl, IsSlice, IsInUse, targets_in}
+use Rattle.table_core.specs.ControlTables.{IsControl, IsSlice, IsInUse, targets_in, writes_in}
 use Rattle.table_core.specs.SliceStates.{SliceState}
 use Rattle.table_core.specs.declared.control.Control.{Control}
 use Rattle.table_history.proofs.Apart.{same_slice}
@@ -12,6 +12,7 @@ use Rattle.table_history.specs.Concerns.{SameSlice}
 use Rattle.table_history.specs.Histories.{History}
 use Rattle.table_history.specs.Instants.{instant_of, completed_instants, completions, begun}
 use Rattle.table_history.specs.Logs.{is_unused, attempts}
+use Rattle.table_history.specs.Metadata.{writes_among}
 use Rattle.table_history.specs.Pins.{pins_made}
 use Rattle.table_history.specs.Tables.{Table, Instant}
 use Rattle.table_history.specs.Times.{greatest_time, time_drawn}
@@ -50,6 +51,13 @@ kept f same true None = refl
 kept f same true (Some i) = same i
 kept f same false o = refl
 
+-- what is kept of an instant, if there is one
+pub kept_in : {X : Type 0} (of : Instant → X) (none : X) (f : Instant → Instant) → ((i : Instant) → of (f i) ≡ of i) → (b : Bool) (o : Option Instant)
+    → option_map_or of (cond b (option_map f o) o) none ≡ option_map_or of o none
+kept_in of none f same true None = refl
+kept_in of none f same true (Some i) = same i
+kept_in of none f same false o = refl
+
 -- ---- replies that change little
 
 -- it draws no time, completes no instant and makes no pin
@@ -86,6 +94,13 @@ begun_targets A H control t q j true here is above =
     is.targets q ∙ ap targets_of_one (undrawn A H is.opened q below)
 begun_targets A H control t q j false here is above = is.targets q
 
+begun_writes : (A : Table) (H : History) (control : Control) (t q target : ℕ) (j : Job) (b : Bool) → (t == q) ≡ b → IsControl A H control → greatest_time A H < t
+    → writes_in control q target ≡ option_map_or (λ i. writes_among target i.blocks) (cond b (Some (begun j (completions A H))) (instant_of A H q)) 0
+begun_writes A H control t q target j true here is above =
+    let below : greatest_time A H < q = let same = same_number t q here in grind (arith, nat_tests) in
+    is.writes q target ∙ ap (λ o. option_map_or (λ i. writes_among target i.blocks) o 0) (undrawn A H is.opened q below)
+begun_writes A H control t q target j false here is above = is.writes q target
+
 pub begun_taken : (A : Table) (H : History) (control : Control) (j : Job) (t : ℕ) → IsControl A H control → greatest_time A H < t
     → IsControl A (record { job = j; step = Begin; reply = reply.Began t } ∷ H) (record control { last = t })
 begun_taken A H control j t is above = record {
@@ -97,6 +112,7 @@ begun_taken A H control j t is above = record {
   last = drawn_last (greatest_time A H) t above;
   completed = is.completed;
   targets = λ q. begun_targets A H control t q j (t == q) refl is above;
+  writes = λ q target. begun_writes A H control t q target j (t == q) refl is above;
   slices = λ s. slice_after A H _ s _ (same_slice A H (record { job = j; step = Begin; reply = reply.Began t }) s refl) (is.slices s);
   attempts = is.attempts ∙ sym (add-zero (attempts A H));
   pins = is.pins;

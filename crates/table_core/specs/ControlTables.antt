@@ -1,18 +1,20 @@
 -- When control tables are those of a table after a history, and when there is room in them for one entry more.
-use Rattle.std.specs.Prelude.{◌≡◌, ◌<◌, ◌+◌, ◌^◌, ℕ, Bool, true, false, Option, Some, None, IsSome, List, [], ◌∷◌, length, reverse, unwrap_or, slice_get, vec_len, vec_capacity}
+use Rattle.std.specs.Prelude.{◌≡◌, ◌<◌, ◌+◌, ◌^◌, ℕ, Bool, true, false, Option, Some, None, IsSome, IfSome, List, [], ◌∷◌, length, reverse, unwrap_or, slice_get, vec_len, vec_capacity}
 use Rattle.std.specs.Ordering.{nat_cmp}
 use Rattle.hudi_base.specs.declared.file_group.Target.{Target}
 use Rattle.key_index.specs.Tiling.{IsBuckets}
-use Rattle.table_core.specs.Keys.{target_cmp}
+use Rattle.table_core.specs.Keys.{target_cmp, number_cmp}
 use Rattle.table_core.specs.Rooms.{found}
 use Rattle.table_core.specs.SliceStates.{SliceState, no_logs, HasBlockRoom}
 use Rattle.table_core.specs.declared.control.Control.{Control}
 use Rattle.table_core.specs.declared.rooms.Rooms.{Rooms}
+use Rattle.table_core.specs.declared.written.TargetNumber.{TargetNumber}
 use Rattle.table_history.specs.Answers.{May}
 use Rattle.table_history.specs.Concerns.{IsOpened}
 use Rattle.table_history.specs.Histories.{History}
 use Rattle.table_history.specs.Instants.{completed_instants, targets_of}
 use Rattle.table_history.specs.Logs.{version_in_use, known_length, is_unused, attempts, opened_at, logs_of}
+use Rattle.table_history.specs.Metadata.{writes_of}
 use Rattle.table_history.specs.Operations.{part_read}
 use Rattle.table_history.specs.Pins.{files_of_view, pins_made}
 use Rattle.table_history.specs.Tables.{Table}
@@ -36,6 +38,13 @@ targets_at targets t = unwrap_or (found nat_cmp targets t) []
 
 abbrev pub targets_in : Control → ℕ → List Target
 targets_in control t = targets_at control.targets t
+
+-- how many writes were placed for a target of an instant, by its number
+abbrev pub writes_at : Rooms TargetNumber ℕ → TargetNumber → ℕ
+writes_at writes at = unwrap_or (found number_cmp writes at) 0
+
+abbrev pub writes_in : Control → ℕ → ℕ → ℕ
+writes_in control t target = writes_at control.writes (record { t = t; number = target })
 
 -- the logs of a slice
 abbrev pub slice_at : Rooms Target SliceState → Target → SliceState
@@ -78,6 +87,7 @@ pub record IsControl (A : Table) (H : History) (control : Control) : Type 0 wher
   pub last : control.last ≡ greatest_time A H
   pub completed : reverse control.completed.items ≡ completed_instants A H
   pub targets : (t : ℕ) → targets_in control t ≡ targets_of A H t
+  pub writes : (t target : ℕ) → writes_in control t target ≡ writes_of A H t target
   pub slices : (s : Target) → IsSlice A H s (slice_in control s)
   pub attempts : control.attempts ≡ attempts A H
   pub pins : (from : Reader) (file : ℕ) → part_in control from file ≡ part_read H from file
@@ -101,9 +111,14 @@ abbrev pub HasEnterRoom : Control → ℕ → Reply → Type 0
 HasEnterRoom control t (Entered targets) = IsSome (found nat_cmp control.targets t) × (control.entering ≡ targets)
 HasEnterRoom control t _ = Unit {0}
 
-abbrev pub HasAppendRoom : Control → ℕ → ℕ → ℕ → Type 0
-HasAppendRoom control t target block =
+-- a target has a place for its writes, and these stay below 2^32
+abbrev pub HasWritesRoom : Rooms TargetNumber ℕ → TargetNumber → ℕ → Type 0
+HasWritesRoom writes at more = IsSome (found number_cmp writes at) × (writes_at writes at + more < 2 ^ 32)
+
+abbrev pub HasAppendRoom : Control → ℕ → ℕ → ℕ → ℕ → Type 0
+HasAppendRoom control t target writes block =
     HasSlice control block (slice_get (targets_in control t) target) × (control.attempts + 1 < 2 ^ 64)
+    × HasWritesRoom control.writes (record { t = t; number = target }) writes
 
 abbrev pub HasFinishRoom : Control → Reply → Type 0
 HasFinishRoom control (Completed t) = vec_len control.completed < vec_capacity control.completed
@@ -115,11 +130,11 @@ HasPinRoom control (Pinned view) =
     × (control.pins_made + 1 < 2 ^ 64)
 HasPinRoom control _ = Unit {0}
 
--- There is room in the tables for the step with this reply: no memory is wanted, and no sum passes 64 bits.
+-- There is room in the tables for the step with this reply: no memory is wanted, and no number passes its bits.
 abbrev pub HasRoom : Control → Step → Reply → Type 0
 HasRoom control (Enter t slots) r = HasEnterRoom control t r
-HasRoom control (Append t target writes bytes) r = HasAppendRoom control t target (length bytes)
-HasRoom control (Finish t checkpoint) r = HasFinishRoom control r
+HasRoom control (Append t target writes bytes) r = HasAppendRoom control t target writes (length bytes)
+HasRoom control (Finish t checkpoint) r = HasFinishRoom control r × IfSome checkpoint (λ n. n < 2 ^ 64)
 HasRoom control (Pin at bases_only) r = HasPinRoom control r
 HasRoom control _ r = Unit {0}
 

@@ -10,7 +10,8 @@ use Rattle.std.proofs.lemmas.Map.Text.{is_eq-slice_cmp}
 use Rattle.hudi_base.specs.declared.file_group.GroupRef.{GroupRef}
 use Rattle.hudi_base.specs.declared.file_group.Target.{Target}
 use Rattle.table_history.specs.Targets.{is_group, is_target, group_cmp}
-use Rattle.table_core.specs.Keys.{target_cmp}
+use Rattle.table_core.specs.Keys.{target_cmp, number_cmp, is_number}
+use Rattle.table_core.specs.declared.written.TargetNumber.{TargetNumber}
 
 pub same_number : (a b : ℕ) → is_eq (nat_cmp a b) ≡ (a == b)
 same_number a b = grind (arith, nat_tests)
@@ -70,3 +71,20 @@ target_is a b h =
 
 pub equal_target : (a b : Target) → is_eq (target_cmp a b) ≡ true → a ≡ b
 equal_target a b h = target_is a b (sym (same_target a b) ∙ h)
+
+pub same_target_number : (a b : TargetNumber) → is_eq (number_cmp a b) ≡ is_number a b
+same_target_number a b =
+    sym (tied_then (nat_cmp a.t b.t) (nat_cmp a.number b.number))
+    ∙ ap (λ t. t && is_eq (nat_cmp a.number b.number)) (same_number a.t b.t)
+    ∙ ap (λ t. (a.t == b.t) && t) (same_number a.number b.number)
+
+record_of_number : (a b : TargetNumber) → a.t ≡ b.t → a.number ≡ b.number → a ≡ b
+record_of_number a b t n = λ i. record { t = t i; number = n i }
+
+pub equal_target_number : (a b : TargetNumber) → is_eq (number_cmp a b) ≡ true → a ≡ b
+equal_target_number a b h =
+    let parts = both (a.t == b.t) (a.number == b.number) (sym (same_target_number a b) ∙ h) in
+    record_of_number a b (number a.t b.t parts.0) (number a.number b.number parts.1)
+  where
+    number : (m n : ℕ) → (m == n) ≡ true → m ≡ n
+    number m n h = grind (arith, nat_tests)

@@ -6,6 +6,7 @@ ghost use Rattle.table_history.specs.Tables.{fresh};
 
 use crate::rooms::Rooms;
 use crate::slice_logs::SliceLogs;
+use crate::written::TargetNumber;
 use hudi_base::{InstantTime, Name, Sequence, Target};
 use key_index::Buckets;
 use std::alloc::Global;
@@ -24,6 +25,8 @@ pub struct Control {
     pub(crate) completed: Vec<InstantTime>,
     // The targets of instants, by their times in milliseconds.
     pub(crate) targets: Rooms<u64, Sequence<Target>>,
+    // How many writes were placed for the targets of instants, where there are some.
+    pub(crate) writes: Rooms<TargetNumber, u32>,
     pub(crate) slices: Rooms<Target, SliceLogs>,
     // How many names of files this session has tried.
     pub(crate) attempts: u64,
@@ -49,6 +52,7 @@ impl Control {
             last: InstantTime::FIRST,
             completed: Vec::new(alloc),
             targets: Rooms::new(alloc),
+            writes: Rooms::new(alloc),
             slices: Rooms::new(alloc),
             attempts: 0,
             pins: Rooms::new(alloc),

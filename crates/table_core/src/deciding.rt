@@ -7,11 +7,13 @@ ghost use Rattle.table_history.specs.Operations.{Decides};
 ghost use Rattle.table_history.specs.Tables.{Table};
 
 use crate::Control;
+use crate::lists::copy_targets;
 use crate::names::{creation, log_name};
 use crate::rooms::Rooms;
 use crate::slice_logs::SliceLogs;
 use crate::tiles::targets_of_slots;
 use crate::times::is_among;
+use commit_meta::{DeltaMeta, Meta};
 use file_names::{State, Token};
 use hudi_base::{Bytes, InstantTime, Sequence, Target};
 use std::alloc::{AllocError, Global};
@@ -87,7 +89,7 @@ impl Control {
     {
         match InstantTime::next_after(self.last, now) {
             Ok(t) => Ok(Decision {
-                op: creation(alloc, &self.table, t, State::Requested)?,
+                op: creation(alloc, &self.table, t, State::Requested, &Meta::Empty)?,
                 reply: Reply::Began(t),
             }),
             Err(_) => Ok(without_operation(Reply::TimeOver)),
@@ -103,9 +105,11 @@ impl Control {
         ensures { IfOk result (λ decision. (A : Table) (H : History) (now : ℤ) → IsControl A H self.now
             → Decides A H (Step.Enter t slots.now) now decision) }
     {
+        let targets = targets_of_slots(alloc, &self.buckets, slots)?;
+        let claims = Meta::Claims(copy_targets(alloc, targets.as_slice())?);
         Ok(Decision {
-            reply: Reply::Entered(targets_of_slots(alloc, &self.buckets, slots)?),
-            op: creation(alloc, &self.table, t, State::Inflight)?,
+            op: creation(alloc, &self.table, t, State::Inflight, &claims)?,
+            reply: Reply::Entered(targets),
         })
     }
 
@@ -173,9 +177,13 @@ impl Control {
         ensures { IfOk result (λ decision. (A : Table) (H : History) (now : ℤ) → IsControl A H self.now
             → Decides A H (Step.Finish t checkpoint) now decision) }
     {
+        let meta = Meta::Delta(DeltaMeta {
+            checkpoint,
+            groups: self.written(alloc, t)?,
+        });
         Ok(Decision {
             reply: Reply::Completed(t),
-            op: creation(alloc, &self.table, t, State::Completed)?,
+            op: creation(alloc, &self.table, t, State::Completed, &meta)?,
         })
     }
 

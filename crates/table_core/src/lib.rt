@@ -2,7 +2,7 @@
 //!
 //! Its contract: over every history of which the tables are the control, `decide` answers the machine's reply and
 //! operation, and `take` leads to the control of the history with one entry more. It stands on `table_history` for the
-//! definitions and on `file_names` for the names of files.
+//! definitions, on `file_names` for the names of files and on `commit_meta` for the texts of metadata.
 #![tactic(auto)]
 
 mod control;
@@ -18,6 +18,7 @@ mod taking;
 mod tiles;
 mod times;
 mod viewing;
+mod written;
 
 pub use control::Control;
 pub use job_reply::JobReply;

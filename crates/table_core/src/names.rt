@@ -1,10 +1,12 @@
 // The names of files.
-ghost use Rattle.std.specs.Prelude.{◌≡◌, ◌≢◌, [], IfOk};
+ghost use Rattle.std.specs.Prelude.{◌≡◌, ◌≢◌, IfOk};
+ghost use Rattle.commit_meta.specs.Texts.{meta_bytes};
 ghost use Rattle.file_names.specs.FileName.{name_of};
 ghost use Rattle.file_names.specs.declared.file_name.Action.TheVariants.{Delta};
 ghost use Rattle.file_names.specs.declared.file_name.FileName.TheVariants.{Other, Instant, Log};
 ghost use Rattle.table_core.specs.ViewTables.{part_named};
 
+use commit_meta::{Meta, meta_text};
 use file_names::{Action, FileName, State, Token, text};
 use hudi_base::{Bytes, InstantTime, Name, Target};
 use std::alloc::{AllocError, Global};
@@ -58,15 +60,26 @@ pub(crate) fn part_of(
     })
 }
 
-// The file of the timeline that marks a state of a deltacommit is made, empty.
+fn text_of(alloc: Global, table: &Name, meta: &Meta) -> Result<Bytes, AllocError>
+    ensures { IfOk result (λ bytes. bytes ≡ meta_bytes table.now meta.now) }
+{
+    match meta_text(alloc, table, meta) {
+        Ok(bytes) => Ok(bytes),
+        Err(_) => Err(AllocError),
+    }
+}
+
+// The file of the timeline that marks a state of a deltacommit is made, with its metadata.
 pub(crate) fn creation(
     alloc: Global,
     table: &Name,
     t: InstantTime,
     state: State,
+    meta: &Meta,
 ) -> Result<Op, AllocError>
-    ensures { IfOk result (λ op. op ≡ Op.Create (name_of table.now (Instant t Delta state)) []) }
+    ensures { IfOk result (λ op.
+        op ≡ Op.Create (name_of table.now (Instant t Delta state)) (meta_bytes table.now meta.now)) }
 {
     let name = name_of(alloc, table, &FileName::Instant(t, Action::Delta, state))?;
-    Ok(Op::Create(name, Bytes::from_vec(Vec::new(alloc))))
+    Ok(Op::Create(name, text_of(alloc, table, meta)?))
 }

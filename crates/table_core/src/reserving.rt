@@ -1,5 +1,5 @@
 // Room for the entry of a step, a function for each kind of step that wants some.
-ghost use Rattle.std.specs.Prelude.{◌≡◌, IsSome, IsOk, OnOk, length};
+ghost use Rattle.std.specs.Prelude.{◌≡◌, ◌<◌, ◌^◌, IsSome, IfSome, IsOk, OnOk, length, vec_len, vec_capacity};
 ghost use Rattle.table_core.specs.ControlTables.{IsControl, IsLeaving, HasRoomFor, HasEnterRoom, HasAppendRoom, HasPinRoom, slice_at};
 ghost use Rattle.table_core.specs.Keys.{target_cmp};
 ghost use Rattle.table_core.specs.Rooms.{found};
@@ -13,6 +13,7 @@ use crate::deciding::target_of;
 use crate::lists::{copy_targets, files_of_view};
 use crate::rooms::Rooms;
 use crate::slice_logs::SliceLogs;
+use crate::written::{TargetNumber, reserve_writes};
 use hudi_base::{Bytes, InstantTime, Sequence, Target};
 use std::alloc::{AllocError, Global};
 use table_history::{Decision, Reply, Step, View};
@@ -68,8 +69,8 @@ fn reserve_slice(
 
 impl Control {
     /// Makes room for a step's entry, whether its operation succeeds or fails, and changes nothing of what the tables
-    /// mean. The only error is want of memory, which is also where a count or a length would pass 64 bits; a step by
-    /// which a job leaves its instant or its pin wants none.
+    /// mean. The only error is want of memory, which is also where a count or a length would pass 64 bits, or the writes
+    /// of one target 32 bits; a step by which a job leaves its instant or its pin wants none.
     pub fn reserve(
         &mut self,
         alloc: Global,
@@ -90,12 +91,12 @@ impl Control {
                 Step::Append {
                     t,
                     target,
+                    writes,
                     bytes,
-                    ..
                 },
                 _,
-            ) => self.reserve_append(alloc, *t, *target, bytes),
-            (Step::Finish { .. }, _) => self.completed.reserve(1),
+            ) => self.reserve_append(alloc, *t, *target, *writes, bytes),
+            (Step::Finish { checkpoint, .. }, _) => self.reserve_finish(*checkpoint),
             (Step::Pin { .. }, Reply::Pinned(view)) => self.reserve_pin(alloc, view),
             _ => Ok(()),
         }
@@ -116,25 +117,37 @@ impl Control {
         Ok(())
     }
 
-    // Room for a block in the slice of a target.
+    // Room for a block of so many writes in the slice of a target.
     fn reserve_append(
         &mut self,
         alloc: Global,
         t: InstantTime,
         target: u32,
+        writes: u32,
         bytes: &Bytes,
     ) -> Result<(), AllocError>
-        ensures room { OnOk result (HasAppendRoom self.new t target (length bytes.now)) }
+        ensures room { OnOk result (HasAppendRoom self.new t target writes (length bytes.now)) }
         ensures same { (A : Table) (H : History) → IsControl A H self.old → IsControl A H self.new }
     {
         if self.attempts == u64::MAX {
             return Err(AllocError);
         }
+        let at = TargetNumber::new(t, target as u64);
+        reserve_writes(&mut self.writes, at, writes)?;
         let block = bytes.as_slice().len() as u64;
         match target_of(&self.targets, t, target) {
             Some(slice) => reserve_slice(&mut self.slices, alloc, slice, block),
             None => Ok(()),
         }
+    }
+
+    // Room for an instant that is completed.
+    fn reserve_finish(&mut self, checkpoint: Option<u64>) -> Result<(), AllocError>
+        ensures room { OnOk result (vec_len self.new.completed < vec_capacity self.new.completed) }
+        ensures fits { IfSome checkpoint (λ n. n < 2 ^ 64) }
+        ensures same { (A : Table) (H : History) → IsControl A H self.old → IsControl A H self.new }
+    {
+        self.completed.reserve(1)
     }
 
     // Room for a pin and its files.

@@ -3,6 +3,7 @@ ghost use Rattle.std.specs.Prelude.{◌≡◌, Some, None, IsSome, OnOk, MatchOp
 ghost use Rattle.std.specs.Ordering.{is_eq};
 ghost use Rattle.table_core.specs.Rooms.{found};
 
+use crate::written::TargetNumber;
 use hudi_base::Target;
 use std::alloc::{AllocError, Global};
 use std::collections::BTreeMap;
@@ -35,6 +36,17 @@ impl Key for Target {
     ghost told_by_order = { same_target };
 
     ghost exact = { equal_target };
+}
+
+impl Key for TargetNumber {
+    ghost use Rattle.table_core.specs.KeyLaws.{same_target_number, equal_target_number};
+    ghost use Rattle.table_core.specs.Keys.{is_number};
+
+    ghost same = { is_number };
+
+    ghost told_by_order = { same_target_number };
+
+    ghost exact = { equal_target_number };
 }
 
 /// Values at keys. What stands for no value may be put in first, so that a value finds room.

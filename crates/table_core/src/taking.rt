@@ -17,6 +17,7 @@ use crate::deciding::target_of;
 use crate::rooms::Rooms;
 use crate::slice_logs::SliceLogs;
 use crate::times::insert_time;
+use crate::written::{TargetNumber, add_writes};
 use hudi_base::{InstantTime, Target};
 use std::alloc::Global;
 use table_history::{Entry, Reply, Step};
@@ -74,11 +75,11 @@ impl Control {
             Step::Append {
                 t,
                 target,
+                writes,
                 bytes,
-                ..
             } => {
                 let block = bytes.as_slice().len() as u64;
-                self.take_append(*t, *target, block, &entry.reply);
+                self.take_append(*t, *target, *writes, block, &entry.reply);
             }
             Step::Finish { .. } => self.take_finish(&entry.reply),
             Step::Pin { .. } => self.take_pin(&entry.reply),
@@ -109,34 +110,35 @@ impl Control {
         }
     }
 
-    fn take_append(&mut self, t: InstantTime, target: u32, block: u64, reply: &Reply)
-        requires { HasAppendRoom self.old t target block }
-        ensures { (A : Table) (H : History) (job : Job) (writes : ℕ) (bytes : List ℕ) → length bytes ≡ block
+    fn take_append(&mut self, t: InstantTime, target: u32, writes: u32, block: u64, reply: &Reply)
+        requires { HasAppendRoom self.old t target writes block }
+        ensures { (A : Table) (H : History) (job : Job) (bytes : List ℕ) → length bytes ≡ block
             → IsControl A H self.old
+            → May A H job (Step.Append t target writes bytes)
             → Answers A H (Step.Append t target writes bytes) reply.now
             → IsControl A (record { job = job; step = Step.Append t target writes bytes; reply = reply.now } ∷ H)
             self.new }
     {
         let alloc = *self.completed.allocator();
-        if let Some(slice) = target_of(&self.targets, t, target) {
-            match reply {
-                Reply::Placed(_, _) => {
-                    let tried = place(
-                        &mut self.slices,
-                        alloc,
-                        slice,
-                        self.session,
-                        self.attempts,
-                        block,
-                    );
-                    self.attempts += tried;
-                }
-                Reply::Fault => {
-                    let tried = give_up(&mut self.slices, alloc, slice);
-                    self.attempts += tried;
-                }
-                _ => {}
+        let Some(slice) = target_of(&self.targets, t, target) else {
+            return;
+        };
+        match reply {
+            Reply::Placed(_, _) => {
+                let slices = &mut self.slices;
+                let tried = place(slices, alloc, slice, self.session, self.attempts, block);
+                self.attempts += tried;
+                add_writes(
+                    &mut self.writes,
+                    TargetNumber::new(t, target as u64),
+                    writes,
+                );
             }
+            Reply::Fault => {
+                let tried = give_up(&mut self.slices, alloc, slice);
+                self.attempts += tried;
+            }
+            _ => {}
         }
     }
 

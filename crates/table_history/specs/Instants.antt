@@ -27,7 +27,7 @@ completions A (e ∷ H) = after e.reply (completions A H)
 
 -- it was drawn by a job, when so many were completed
 abbrev pub begun : Job → ℕ → Instant
-begun job start = record { action = Delta; state = state.Requested; owner = Some job; targets = []; blocks = []; failed = false; start = start; finished = None }
+begun job start = record { action = Delta; state = state.Requested; owner = Some job; targets = []; blocks = []; checkpoint = None; failed = false; start = start; finished = None }
 
 abbrev pub entered : List Target → Instant → Instant
 entered targets i = record i { state = state.Inflight; targets = targets }
@@ -35,8 +35,8 @@ entered targets i = record i { state = state.Inflight; targets = targets }
 abbrev pub with_block : ℕ → ℕ → List ℕ → Instant → Instant
 with_block target writes bytes i = record i { blocks = record { target = target; writes = writes; bytes = bytes } ∷ i.blocks }
 
-abbrev pub completed : ℕ → Instant → Instant
-completed number i = record i { state = state.Completed; owner = None; finished = Some number }
+abbrev pub completed : ℕ → Option ℕ → Instant → Instant
+completed number checkpoint i = record i { state = state.Completed; owner = None; checkpoint = checkpoint; finished = Some number }
 
 abbrev pub failed : Instant → Instant
 failed i = record i { failed = true }
@@ -51,7 +51,7 @@ abbrev pub instant_after : ℕ → ℕ → Job → Step → Reply → Option Ins
 instant_after t number job Begin (reply.Began u) before = if u == t then Some (begun job number) else before
 instant_after t number job (Enter u slots) (reply.Entered targets) before = if u == t then option_map (entered targets) before else before
 instant_after t number job (Append u target writes bytes) (reply.Placed version at) before = if u == t then option_map (with_block target writes bytes) before else before
-instant_after t number job (Finish u checkpoint) (reply.Completed v) before = if u == t then option_map (completed number) before else before
+instant_after t number job (Finish u checkpoint) (reply.Completed v) before = if u == t then option_map (completed number checkpoint) before else before
 instant_after t number job (Abandon u) reply.Done before = if u == t then option_map abandoned before else before
 instant_after t number job (Enter u slots) reply.Fault before = if u == t then option_map failed before else before
 instant_after t number job (Enter u slots) (reply.Damaged name cause) before = if u == t then option_map failed before else before

@@ -5,6 +5,7 @@ pub mod Histories
 pub mod Instants
 pub mod JobLaw
 pub mod Logs
+pub mod Metadata
 pub mod Operations
 pub mod Pins
 pub mod Tables

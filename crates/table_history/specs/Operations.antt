@@ -2,6 +2,9 @@
 use Rattle.std.specs.Prelude.{◌≡◌, ℕ, ℤ, List, [], Option, Some, None, option_and_then}
 use Rattle.hudi_base.specs.InstantTime.{time_after}
 use Rattle.hudi_base.specs.declared.file_group.Target.{Target}
+use Rattle.commit_meta.specs.Texts.{meta_bytes}
+use Rattle.commit_meta.specs.declared.meta.Meta.{Meta}
+use Rattle.commit_meta.specs.declared.meta.Meta.TheVariants as meta
 use Rattle.file_names.specs.FileName.{name_of}
 use Rattle.file_names.specs.declared.file_name.Action.TheVariants.{Delta}
 use Rattle.file_names.specs.declared.file_name.FileName.TheVariants.{Instant}
@@ -10,6 +13,7 @@ use Rattle.file_names.specs.declared.file_name.State.TheVariants as state
 use Rattle.table_history.specs.Answers.{Answers}
 use Rattle.table_history.specs.Histories.{History}
 use Rattle.table_history.specs.Logs.{target_at, version_in_use, attempt_in_use, log_name}
+use Rattle.table_history.specs.Metadata.{written_by}
 use Rattle.table_history.specs.Pins.{pin_of, part_at}
 use Rattle.table_history.specs.Tables.{Table}
 use Rattle.table_history.specs.Times.{greatest_time}
@@ -24,9 +28,9 @@ use Rattle.table_history.specs.declared.step.Step.{Step}
 use Rattle.table_history.specs.declared.step.Step.TheVariants.{Begin, Enter, Append, Finish, Read}
 use Rattle.table_history.specs.declared.view.Part.{Part}
 
--- A file of the timeline is made. For now it is empty.
-abbrev pub makes : Table → ℕ → State → Op
-makes A t s = op.Create (name_of A.name (Instant t Delta s)) []
+-- a file of the timeline is made, with this metadata
+abbrev pub makes : Table → ℕ → State → Meta → Op
+makes A t s said = op.Create (name_of A.name (Instant t Delta s)) (meta_bytes A.name said)
 
 -- a block is added to the log in use of a slice
 abbrev pub appends : Table → History → List ℕ → Option Target → Op
@@ -40,12 +44,13 @@ reads at len (Some part) = op.Read part.name at len
 abbrev pub part_read : History → Reader → ℕ → Option Part
 part_read H (reader.Pin pin) file = option_and_then (λ live. part_at live.view file) (pin_of H pin)
 
--- the one operation of a step that has this reply
+-- The one operation of a step that has this reply. What the operation of a Begin or an Enter that failed was to be isn't
+-- told by the reply: it did nothing.
 abbrev pub operation : Table → History → Step → Reply → Op
-operation A H Begin (reply.Began t) = makes A t state.Requested
-operation A H (Enter t slots) r = makes A t state.Inflight
+operation A H Begin (reply.Began t) = makes A t state.Requested meta.Empty
+operation A H (Enter t slots) (reply.Entered targets) = makes A t state.Inflight (meta.Claims targets)
 operation A H (Append t target writes bytes) r = appends A H bytes (target_at A H t target)
-operation A H (Finish t checkpoint) r = makes A t state.Completed
+operation A H (Finish t checkpoint) r = makes A t state.Completed (meta.Delta (record { checkpoint = checkpoint; groups = written_by A H t }))
 operation A H (Read from file at len) r = reads at len (part_read H from file)
 operation A H _ r = op.Nothing
 

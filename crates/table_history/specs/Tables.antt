@@ -14,14 +14,15 @@ pub record Block : Type 0 where
   pub bytes : List ℕ
 
 -- An instant: its action and state, who owns it, the groups and slices that it writes to, the blocks that it placed,
--- the last one first, and whether a step of it failed; how many instants were completed at its first step, and which
--- of the completed ones it is itself.
+-- the last one first, the checkpoint in the source of its rows that it was completed with, and whether a step of it
+-- failed; how many instants were completed at its first step, and which of the completed ones it is itself.
 pub record Instant : Type 0 where
   pub action : Action
   pub state : State
   pub owner : Option Job
   pub targets : List Target
   pub blocks : List Block
+  pub checkpoint : Option ℕ
   pub failed : Bool
   pub start : ℕ
   pub finished : Option ℕ

@@ -3,6 +3,7 @@ use Rattle.std.proofs.Common.{◌≡◌, ◌⊎◌, inl, inr, ◌<◌, ◌≤◌
 use Rattle.std.specs.Prelude.{nat_le}
 use Rattle.std.proofs.lemmas.Bool.Decides.{nat_tests}
 use Rattle.hudi_base.specs.InstantTime.{first_time}
+use Rattle.commit_meta.specs.declared.meta.Meta.TheVariants as said_by
 use Rattle.file_names.specs.declared.file_name.Action.{Action}
 use Rattle.file_names.specs.declared.file_name.Action.TheVariants.{Delta}
 use Rattle.file_names.specs.declared.file_name.State.{State}
@@ -11,6 +12,7 @@ use Rattle.table_history.specs.After.{after_history, greatest_in}
 use Rattle.table_history.specs.Concerns.{IsOpened}
 use Rattle.table_history.specs.Histories.{History}
 use Rattle.table_history.specs.Instants.{instant_of, completions, begun, failed, abandoned}
+use Rattle.table_history.specs.Metadata.{metadata, writes_among, written}
 use Rattle.table_history.specs.Tables.{Table, Instant, instant_at}
 use Rattle.table_history.specs.Times.{greatest_time, time_drawn}
 use Rattle.table_history.specs.declared.entry.Entry.{Entry}
@@ -27,28 +29,42 @@ pub record IsNoMore (old new : Instant) : Type 0 where
   pub state : new.state ≡ old.state
   pub targets : new.targets ≡ old.targets
   pub blocks : new.blocks ≡ old.blocks
+  pub checkpoint : new.checkpoint ≡ old.checkpoint
   pub start : new.start ≡ old.start
   pub finished : new.finished ≡ old.finished
   pub owner : (job : Job) → new.owner ≡ Some job → old.owner ≡ Some job
   pub failed : new.failed ≡ false → old.failed ≡ false
 
 pub same_instant : (i : Instant) → IsNoMore i i
-same_instant i = record { action = refl; state = refl; targets = refl; blocks = refl; start = refl; finished = refl; owner = λ job is. is; failed = λ is. is }
+same_instant i = record { action = refl; state = refl; targets = refl; blocks = refl; checkpoint = refl; start = refl; finished = refl; owner = λ job is. is; failed = λ is. is }
 
 pub no_more-failed : (i : Instant) → IsNoMore i (failed i)
-no_more-failed i = record { action = refl; state = refl; targets = refl; blocks = refl; start = refl; finished = refl; owner = λ job is. is; failed = λ is. let wrong : true ≡ false = is in cc }
+no_more-failed i = record { action = refl; state = refl; targets = refl; blocks = refl; checkpoint = refl; start = refl; finished = refl; owner = λ job is. is; failed = λ is. let wrong : true ≡ false = is in cc }
 
 pub no_more-abandoned : (i : Instant) → IsNoMore i (abandoned i)
-no_more-abandoned i = record { action = refl; state = refl; targets = refl; blocks = refl; start = refl; finished = refl; owner = λ job is. absurd (none_some is); failed = λ is. is }
+no_more-abandoned i = record { action = refl; state = refl; targets = refl; blocks = refl; checkpoint = refl; start = refl; finished = refl; owner = λ job is. absurd (none_some is); failed = λ is. is }
 
--- the instant is of the same action and in the same state, and began as it did
+-- the instant is of the same action and in the same state, began as it did, and what its files say is the same
 pub record IsSameStage (old new : Instant) : Type 0 where
   pub action : new.action ≡ old.action
   pub state : new.state ≡ old.state
   pub start : new.start ≡ old.start
+  pub said : (s : State) → has_reached old.state s ≡ true → metadata new s ≡ metadata old s
+
+-- metadata tells of the targets, the blocks and the checkpoint alone
+pub same_metadata : (old new : Instant) → new.targets ≡ old.targets → new.blocks ≡ old.blocks → new.checkpoint ≡ old.checkpoint → (s : State) → metadata new s ≡ metadata old s
+same_metadata old new targets blocks checkpoint Requested = refl
+same_metadata old new targets blocks checkpoint Inflight = ap said_by.Claims targets
+same_metadata old new targets blocks checkpoint Completed =
+    λ i. said_by.Delta (record { checkpoint = checkpoint i; groups = written (λ target. writes_among target (blocks i)) 0 (targets i) })
 
 pub stage : (old new : Instant) → IsNoMore old new → IsSameStage old new
-stage old new less = record { action = less.action; state = less.state; start = less.start }
+stage old new less = record {
+  action = less.action;
+  state = less.state;
+  start = less.start;
+  said = λ s reached. same_metadata old new less.targets less.blocks less.checkpoint s;
+}
 
 module _ (Related : Instant → Instant → Type 0) where
   pub record WasInstant (before : Option Instant) (found : Instant) : Type 0 where
@@ -78,7 +94,7 @@ line_same A H K same = record {
   new = λ t old is. record { found = old; is = same t ∙ is; same = same_instant old };
 }
 
-pub line_changed : (P : Instant → Instant → Type 0) (A : Table) (H K : History) (t : ℕ) (f : Instant → Instant) → ((i : Instant) → P i i) → ((i : Instant) → P i (f i))
+pub line_changed : (P : Instant → Instant → Type 0) (A : Table) (H K : History) (t : ℕ) (f : Instant → Instant) → ((i : Instant) → P i i) → ((i : Instant) → instant_of A H t ≡ Some i → P i (f i))
     → ((u : ℕ) → instant_of A K u ≡ cond (t == u) (option_map f (instant_of A H u)) (instant_of A H u)) → KeepsLine P A H K
 line_changed P A H K t f itself less same = record { old = old; new = new }
   where
@@ -89,19 +105,22 @@ line_changed P A H K t f itself less same = record { old = old; new = new }
         by_change changed = record { old = changed.old; was = changed.was; same = by_case changed.by }
           where
             by_case : ((t ≡ u) × (found ≡ f changed.old)) ⊎ ((t ≡ u → ⊥) × (found ≡ changed.old)) → P changed.old found
-            by_case (inl here) = subst (P changed.old) (sym here.1) (less changed.old)
+            by_case (inl here) = subst (P changed.old) (sym here.1) (less changed.old (ap (instant_of A H) here.0 ∙ changed.was))
             by_case (inr other) = subst (P changed.old) (sym other.1) (itself changed.old)
 
     new : (u : ℕ) (i : Instant) → instant_of A H u ≡ Some i → IsInstant P (instant_of A K u) i
-    new u i is = by_test (t == u) (same u ∙ ap (λ o. cond (t == u) (option_map f o) o) is)
+    new u i is = by_test (t == u) refl (same u ∙ ap (λ o. cond (t == u) (option_map f o) o) is)
       where
-        by_test : (b : Bool) → instant_of A K u ≡ cond b (Some (f i)) (Some i) → IsInstant P (instant_of A K u) i
-        by_test true e = record { found = f i; is = e; same = less i }
-        by_test false e = record { found = i; is = e; same = itself i }
+        one : (t == u) ≡ true → t ≡ u
+        one test = grind (arith, nat_tests)
+
+        by_test : (b : Bool) → (t == u) ≡ b → instant_of A K u ≡ cond b (Some (f i)) (Some i) → IsInstant P (instant_of A K u) i
+        by_test true test e = record { found = f i; is = e; same = less i (ap (instant_of A H) (one test) ∙ is) }
+        by_test false test e = record { found = i; is = e; same = itself i }
 
 pub line_less : (A : Table) (H K : History) (t : ℕ) (f : Instant → Instant) → ((i : Instant) → IsNoMore i (f i))
     → ((u : ℕ) → instant_of A K u ≡ cond (t == u) (option_map f (instant_of A H u)) (instant_of A H u)) → KeepsLine IsNoMore A H K
-line_less A H K t f less same = line_changed IsNoMore A H K t f same_instant less same
+line_less A H K t f less same = line_changed IsNoMore A H K t f same_instant (λ i at. less i) same
 
 -- ---- a step that makes a file of the timeline
 
@@ -113,6 +132,8 @@ pub record Advances (A : Table) (H K : History) (t : ℕ) (s : State) (found : I
   pub others : (u : ℕ) → (t ≡ u → ⊥) → instant_of A K u ≡ instant_of A H u
   pub before : (action : Action) (r : State) → HasReached (instant_of A H t) action r → HasReached (instant_of A K t) action r
   pub after : (action : Action) (r : State) → HasReached (instant_of A K t) action r → ((action ≡ Delta) × (r ≡ s)) ⊎ HasReached (instant_of A H t) action r
+  -- what its earlier files say is the same
+  pub said : (i : Instant) → instant_of A H t ≡ Some i → (r : State) → has_reached i.state r ≡ true → metadata found r ≡ metadata i r
   -- and what was completed is another one
   pub pending : (i : Instant) → instant_of A H t ≡ Some i → i.state ≡ Completed → ⊥
 
@@ -135,6 +156,7 @@ advances_begun A H e t job none same = record {
   others = λ u apart. same u ∙ ap (λ b. cond b (Some (begun job (completions A H))) (instant_of A H u)) (not_itself t u apart);
   before = λ action r reached. absurd (subst (λ (o : Option Instant). HasReached o action r) none reached);
   after = λ action r reached. inl (first action r (subst (λ (o : Option Instant). HasReached o action r) here reached));
+  said = λ i is r reached. absurd (none_some (sym none ∙ is));
   pending = λ i is done. absurd (none_some (sym none ∙ is));
 }
   where
@@ -174,15 +196,18 @@ not_done Inflight Completed next is = let wrong : has_reached Inflight Completed
 not_done _ _ next is = absurd next
 
 pub advances_changed : (A : Table) (H : History) (e : Entry) (t : ℕ) (f : Instant → Instant) (i : Instant) (to : State) → instant_of A H t ≡ Some i → i.action ≡ Delta → IsNextState i.state to
-    → (f i).action ≡ i.action → (f i).state ≡ to
+    → (f i).action ≡ i.action → (f i).state ≡ to → ((r : State) → has_reached i.state r ≡ true → metadata (f i) r ≡ metadata i r)
     → ((u : ℕ) → instant_of A (e ∷ H) u ≡ cond (t == u) (option_map f (instant_of A H u)) (instant_of A H u)) → Advances A H (e ∷ H) t to (f i)
-advances_changed A H e t f i to is delta next action came same = record {
+advances_changed A H e t f i to is delta next action came said same = record {
   at = here;
   action = action ∙ delta;
   state = came;
   others = λ u apart. same u ∙ ap (λ b. cond b (option_map f (instant_of A H u)) (instant_of A H u)) (not_itself t u apart);
   before = λ a r reached. subst (λ (o : Option Instant). HasReached o a r) (sym here) (further a r (subst (λ (o : Option Instant). HasReached o a r) is reached));
   after = λ a r reached. back a r (subst (λ (o : Option Instant). HasReached o a r) here reached);
+  said = λ j at r reached.
+      let one : j ≡ i = some_same (sym at ∙ is) in
+      said r (ap (λ (k : Instant). has_reached k.state r) (sym one) ∙ reached) ∙ ap (λ (k : Instant). metadata k r) (sym one);
   pending = λ j at done. not_done i.state to next (ap (λ (k : Instant). k.state) (some_same (sym is ∙ at)) ∙ done);
 }
   where

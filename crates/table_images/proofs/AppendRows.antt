@@ -1,16 +1,20 @@
 -- All parts at an append: the block was placed, or the append failed.
-use Rattle.std.proofs.Common.{◌≡◌, ◌⊎◌, inl, inr, ◌≤◌, ◌==◌, ℕ, Bool, true, false, cond, List, [], ◌∷◌, ◌++◌, take, Some, option_map, append-nil, refl, sym, ap, ◌∙◌, subst, arith}
+use Rattle.std.proofs.Common.{◌≡◌, ◌⊎◌, inl, inr, ◌≤◌, ◌<◌, ◌+◌, ◌^◌, ◌==◌, ℕ, Bool, true, false, cond, List, [], ◌∷◌, ◌++◌, take, Option, Some, option_map, append-nil, refl, sym, ap, ◌∙◌, subst, arith}
+use Rattle.std.specs.Option.{option_map_or}
 use Rattle.std.specs.List.{AllByRecursion}
 use Rattle.hudi_base.specs.Files.{FileMap, content}
 use Rattle.hudi_base.specs.declared.file_group.GroupRef.{GroupRef}
 use Rattle.hudi_base.specs.declared.file_group.Target.{Target}
 use Rattle.file_names.specs.FileName.{IsNamed, IsGroup}
+use Rattle.file_names.specs.declared.file_name.State.{State}
+use Rattle.file_names.specs.declared.file_name.State.TheVariants.{Requested, Inflight, Completed}
 use Rattle.log_block.specs.Form.{Fits, block_bytes}
 use Rattle.log_block.specs.declared.block.Block.{Block}
 use Rattle.table_history.specs.After.{after_history, greatest_in}
 use Rattle.table_history.specs.Histories.{History}
 use Rattle.table_history.specs.Instants.{instant_of, with_block, failed}
 use Rattle.table_history.specs.Logs.{version_in_use}
+use Rattle.table_history.specs.Metadata.{metadata, writes_among, writes_of}
 use Rattle.table_history.specs.Tables.{Table, Instant}
 use Rattle.table_history.specs.Targets.{is_group}
 use Rattle.table_history.specs.declared.job.Job.{Job}
@@ -21,6 +25,7 @@ use Rattle.table_images.specs.Kept.{Kept, Counts, IsCurrent, OwnedInstants, IsOw
 use Rattle.table_images.specs.LogTexts.{IsLogOf, blocks_in, bytes_of_blocks}
 use Rattle.table_images.specs.Numbers.{IsUpTo}
 use Rattle.table_images.specs.Runs.{log_in_use}
+use Rattle.table_images.specs.Timeline.{has_reached}
 use Rattle.table_images.proofs.Advances.{IsNoMore, IsSameStage, KeepsLine, stage, line_weaker, line_changed, line_less, no_more-failed}
 use Rattle.table_images.proofs.NumberCells.{earliest_stays, stays_kept, starts_kept, old_blocks, bounded_logs, bounded_bases, bounded_unchanged, bases_unchanged, up_to}
 use Rattle.table_images.proofs.Appended.{name_in_use, with_more}
@@ -64,6 +69,12 @@ owned_then A H K t f i is le same mine owned u found job at owner = by_change (c
             let one : f i ≡ found = ap f (some_same (sym is ∙ ap (instant_of A H) here.0 ∙ changed.was)) ∙ sym here.1 in
             subst (λ n. IsOwnedWrite (after_history A K) n found) here.0 (subst (IsOwnedWrite (after_history A K) t) one mine)
         by_case (inr other) = owned_more A H K u found le (owned u found job (changed.was ∙ ap Some (sym other.1)) owner)
+
+-- a block changes nothing of what an instant said that isn't completed
+said_placed : (i : Instant) (target writes : ℕ) (bytes : List ℕ) (r : State) → has_reached Inflight r ≡ true → metadata (with_block target writes bytes i) r ≡ metadata i r
+said_placed i target writes bytes Requested reached = refl
+said_placed i target writes bytes Inflight reached = refl
+said_placed i target writes bytes Completed reached = let wrong : false ≡ true = reached in absurd cc
 
 -- the chains, whatever was added
 chains_then : (A : Table) (H K : History) (image : FileMap) (s : Target) (kept : Kept A image H) (to : Goes A H image s) (current : IsCurrent (after_history A H) s) (more : List ℕ) (new : List Block)
@@ -113,10 +124,10 @@ blocks_bounded A H K image s kept to more new log le bounded =
 -- ---- the block was placed
 
 pub row_placed : (A : Table) (H : History) (image : FileMap) (j : Job) (t target writes version at : ℕ) (block : Block) (appending : IsAppending A H j t target) → Fits block → is_write_of t block ≡ true
-    → version ≡ version_in_use A H appending.s → IsNamed (log_in_use A H appending.s) → Kept A image H
+    → version ≡ version_in_use A H appending.s → IsNamed (log_in_use A H appending.s) → writes_of A H t target + writes < 2 ^ 32 → Kept A image H
     → Kept A (with_more A H image appending.s (block_bytes block)) (entry j (Append t target writes (block_bytes block)) (reply.Placed version at) ∷ H)
 unfolding OwnedInstants
-row_placed A H image j t target writes version at block appending fits write first named kept = record {
+row_placed A H image j t target writes version at block appending fits write first named few kept = record {
   timeline = timeline_still A H K image new stages (λ u action st time. timeline_apart A H image s bytes named u action st time) kept;
   whole = whole_more A H K image s kept to bytes (to.blocks ++ block ∷ [], log);
   tiles = kept.tiles;
@@ -132,13 +143,16 @@ row_placed A H image j t target writes version at block appending fits write fir
   };
   known = known_placed A H K image s kept to bytes placed;
   owned = owned_then A H K t (with_block target writes bytes) appending.i appending.is le (λ u. refl)
-      (owned-placed (after_history A K) t appending.i target writes bytes appending.inflight (owned_more A H K t appending.i le (kept.owned t appending.i j appending.is appending.owner))) kept.owned;
+      (owned-placed (after_history A K) t appending.i target writes bytes appending.inflight few_here (owned_more A H K t appending.i le (kept.owned t appending.i j appending.is appending.owner))) kept.owned;
   logs = logs_placed A H K image s kept to block fits placed;
   versions = versions_placed A H K image s kept to block fits placed;
 }
   where
     bytes : List ℕ
     bytes = block_bytes block
+
+    few_here : writes_among target appending.i.blocks + writes < 2 ^ 32
+    few_here = subst (λ (o : Option Instant). option_map_or (λ i. writes_among target i.blocks) o 0 + writes < 2 ^ 32) appending.is few
 
     s : Target
     s = appending.s
@@ -166,7 +180,14 @@ row_placed A H image j t target writes version at block appending fits write fir
 
     stages : KeepsLine IsSameStage A H (entry j (Append t target writes (block_bytes block)) (reply.Placed version at) ∷ H)
     stages = line_changed IsSameStage A H (entry j (Append t target writes (block_bytes block)) (reply.Placed version at) ∷ H) t (with_block target writes (block_bytes block))
-        (λ i. record { action = refl; state = refl; start = refl }) (λ i. record { action = refl; state = refl; start = refl }) (λ u. refl)
+        (λ i. record { action = refl; state = refl; start = refl; said = λ r reached. refl })
+        (λ i at. record {
+          action = refl;
+          state = refl;
+          start = refl;
+          said = λ r reached. said_placed i target writes (block_bytes block) r
+              (ap (λ s. has_reached s r) (sym (ap (λ (k : Instant). k.state) (some_same (sym at ∙ appending.is)) ∙ appending.inflight)) ∙ reached);
+        }) (λ u. refl)
 
 -- ---- the append failed
 

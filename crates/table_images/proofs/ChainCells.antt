@@ -183,14 +183,14 @@ here_entered A H group blocks t i targets is unplaced requested holds = record {
 not_less : (n m : ℕ) → n ≤ m → m < n → ⊥
 not_less n m le lt = omega (arith, le, lt)
 
-pub here_completed : (A : Table) (H : History) (group : GroupRef) (blocks : List Block) (t : ℕ) (i : Instant) → instant_of A H t ≡ Some i → Counts t i
-    → ((v : ℕ) (j : Instant) → instant_of A H v ≡ Some j → j.start ≤ completions A H) → Holds A H group blocks → HoldsHere A H group blocks t (completed (completions A H) i)
-here_completed A H group blocks t i is counts starts holds = record {
+pub here_completed : (A : Table) (H : History) (group : GroupRef) (blocks : List Block) (t : ℕ) (checkpoint : Option ℕ) (i : Instant) → instant_of A H t ≡ Some i → Counts t i
+    → ((v : ℕ) (j : Instant) → instant_of A H v ≡ Some j → j.start ≤ completions A H) → Holds A H group blocks → HoldsHere A H group blocks t (completed (completions A H) checkpoint i)
+here_completed A H group blocks t checkpoint i is counts starts holds = record {
   each = λ _. let old = holds.each t i is counts in record { writes = old.writes; unvoided = old.unvoided };
   before = λ v j at_v same done before. absurd (late v j at_v same before);
   behind = λ u k at_u done _ before. holds.order u t k i at_u is done counts before;
 }
   where
-    late : (v : ℕ) (j : Instant) → (v ≡ t) ⊎ (instant_of A H v ≡ Some j) → ((v ≡ t) → j ≡ completed (completions A H) i) → completions A H < j.start → ⊥
+    late : (v : ℕ) (j : Instant) → (v ≡ t) ⊎ (instant_of A H v ≡ Some j) → ((v ≡ t) → j ≡ completed (completions A H) checkpoint i) → completions A H < j.start → ⊥
     late v j (inl here) same before = not_less i.start (completions A H) (starts t i is) (subst (λ (k : Instant). completions A H < k.start) (same here) before)
     late v j (inr other) same before = not_less j.start (completions A H) (starts v j other) before

@@ -85,7 +85,9 @@ by_step : (A : Table) (H : History) (s : Step) (r : Reply) (name bytes : List â„
 by_step A H (Append t target writes bs) r name bytes m names did = record { answers = tt; names = names; did = of_target A H bs name bytes m r (target_at A H t target) did }
 by_step A H Begin (reply.Began t) name bytes m names did = absurd (did_append (operation A H Begin (reply.Began t)) (reply.Began t) name bytes did)
 by_step A H Begin r name bytes m names did = absurd (did_append op.Nothing r name bytes did)
-by_step A H (Enter t slots) r name bytes m names did = absurd (did_append (operation A H (Enter t slots) r) r name bytes did)
+by_step A H (Enter t slots) (reply.Entered targets) name bytes m names did =
+    absurd (did_append (operation A H (Enter t slots) (reply.Entered targets)) (reply.Entered targets) name bytes did)
+by_step A H (Enter t slots) r name bytes m names did = absurd (did_append op.Nothing r name bytes did)
 by_step A H (Finish t checkpoint) r name bytes m names did = absurd (did_append (operation A H (Finish t checkpoint) r) r name bytes did)
 by_step A H (Pin at bases_only) r name bytes m names did = absurd (did_append op.Nothing r name bytes did)
 by_step A H (Unpin pin) r name bytes m names did = absurd (did_append op.Nothing r name bytes did)
@@ -96,6 +98,6 @@ pub fails : (work : Work) (A : Table) â†’ FailsAlso work A
 fails work A H entry name bytes n may =
     let failed = by_step A H entry.step entry.reply name bytes n may.comes.names may.did in
     record {
-      comes = record { next = record { may = may.comes.next.may; answers = failed.answers }; allowed = may.comes.allowed; names = failed.names };
+      comes = record { next = record { may = may.comes.next.may; answers = failed.answers }; allowed = may.comes.allowed; names = failed.names; numbers = may.comes.numbers };
       did = failed.did;
     }

@@ -32,3 +32,4 @@ pub mod Views
 pub mod WhereTo
 pub mod WholeCells
 pub mod Written
+pub mod MetadataBack

@@ -75,7 +75,7 @@ none_after t n j (Enter u slots) _ h = refl
 none_after t n j (Append u target writes bytes) (reply.Placed version at) h = still_none (with_block target writes bytes) (u == t)
 none_after t n j (Append u target writes bytes) reply.Fault h = still_none failed (u == t)
 none_after t n j (Append u target writes bytes) _ h = refl
-none_after t n j (Finish u checkpoint) (reply.Completed v) h = still_none (completed n) (u == t)
+none_after t n j (Finish u checkpoint) (reply.Completed v) h = still_none (completed n checkpoint) (u == t)
 none_after t n j (Finish u checkpoint) reply.Fault h = still_none failed (u == t)
 none_after t n j (Finish u checkpoint) (reply.Damaged name cause) h = still_none failed (u == t)
 none_after t n j (Finish u checkpoint) _ h = refl
@@ -193,7 +193,7 @@ stays t n j (Enter u slots) _ i = (i, refl)
 stays t n j (Append u target writes bytes) (reply.Placed version at) i = stays_changed (with_block target writes bytes) (u == t) i
 stays t n j (Append u target writes bytes) reply.Fault i = stays_changed failed (u == t) i
 stays t n j (Append u target writes bytes) _ i = (i, refl)
-stays t n j (Finish u checkpoint) (reply.Completed v) i = stays_changed (completed n) (u == t) i
+stays t n j (Finish u checkpoint) (reply.Completed v) i = stays_changed (completed n checkpoint) (u == t) i
 stays t n j (Finish u checkpoint) reply.Fault i = stays_changed failed (u == t) i
 stays t n j (Finish u checkpoint) (reply.Damaged name cause) i = stays_changed failed (u == t) i
 stays t n j (Finish u checkpoint) _ i = (i, refl)

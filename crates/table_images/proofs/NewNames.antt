@@ -62,24 +62,25 @@ inflight_only i inflight reached = let wrong : false ≡ true = sym (ap (λ s. h
 module _ (A : Table) (H : History) (image : FileMap) (opened : IsOpened A) (kept : Kept A image H) where
   drawn_is_new : (j : Job) (r : Reply) (name bytes : List ℕ) → Answers A H Begin r → NamesFit A H Begin r → operation A H Begin r ≡ op.Create name bytes → get image name ≡ None
   drawn_is_new j (reply.Began t) name bytes answers names is =
-      ap (get image) (sym (made_is (timeline_name A t Delta Requested) name [] bytes is))
+      ap (get image) (sym (made_is (timeline_name A t Delta Requested) name _ bytes is))
       ∙ unmarked A H image t Requested names (λ reached. subst (λ (o : Option Instant). HasReached o Delta Requested) (undrawn A H opened t answers) reached) kept
   drawn_is_new j _ name bytes answers names is = absurd (none_made name bytes is)
 
   entered_is_new : (j : Job) (t : ℕ) (slots : _) (r : Reply) (name bytes : List ℕ) → May A H j (Enter t slots) → operation A H (Enter t slots) r ≡ op.Create name bytes → get image name ≡ None
   unfolding OwnedInstants
-  entered_is_new j t slots r name bytes may is =
+  entered_is_new j t slots (reply.Entered targets) name bytes may is =
       let own = owner_at A H j t (λ i. i.state ≡ Requested) may.0 in
-      ap (get image) (sym (made_is (timeline_name A t Delta Inflight) name [] bytes is))
+      ap (get image) (sym (made_is (timeline_name A t Delta Inflight) name _ bytes is))
       ∙ unmarked A H image t Inflight (kept.owned t own.i j own.is own.owner).time
       (λ reached. requested_only own.i own.what (subst (λ (o : Option Instant). HasReached o Delta Inflight) own.is reached)) kept
+  entered_is_new j t slots _ name bytes may is = absurd (none_made name bytes is)
 
   completed_is_new : (j : Job) (t : ℕ) (checkpoint : Option ℕ) (r : Reply) (name bytes : List ℕ) → May A H j (Finish t checkpoint) → operation A H (Finish t checkpoint) r ≡ op.Create name bytes
       → get image name ≡ None
   unfolding OwnedInstants
   completed_is_new j t checkpoint r name bytes may is =
       let own = owner_at A H j t (λ i. (i.state ≡ Inflight) × AllPlaced i) may in
-      ap (get image) (sym (made_is (timeline_name A t Delta Completed) name [] bytes is))
+      ap (get image) (sym (made_is (timeline_name A t Delta Completed) name _ bytes is))
       ∙ unmarked A H image t Completed (kept.owned t own.i j own.is own.owner).time
       (λ reached. inflight_only own.i own.what.0 (subst (λ (o : Option Instant). HasReached o Delta Completed) own.is reached)) kept
 

@@ -1,6 +1,6 @@
 -- A table that was just opened: what stands for it is kept. And what is kept stands.
 use Rattle.std.proofs.Common.{◌≡◌, ◌⊎◌, inl, inr, ◌<◌, ◌≤◌, ◌+◌, ℕ, true, false, List, [], ◌∷◌, ◌++◌, length, Option, Some, None, max, refl, sym, ◌∙◌, subst, arith}
-use Rattle.std.specs.FinMap.{empty, get-empty}
+use Rattle.std.specs.FinMap.{empty, get, get-empty}
 use Rattle.std.specs.Ordering.{nat_cmp}
 use Rattle.std.specs.Cmp.Lexicographic.{slice_cmp}
 use Rattle.hudi_base.specs.Files.{FileMap, IsImage, changed_all}
@@ -24,7 +24,7 @@ use Rattle.table_images.specs.Numbers.{IsEarliest}
 use Rattle.table_images.specs.Runs.{Run, IsRun, history_of, operations_of, files_after}
 use Rattle.table_images.specs.Stands.{StandsFor, StandsAfter, IsJustOpened, Knows}
 use Rattle.table_images.specs.Stops.{IsAtStop}
-use Rattle.table_images.specs.Timeline.{TimelineFiles, HasReached}
+use Rattle.table_images.specs.Timeline.{TimelineFiles, HasReached, ReadsAs, timeline_name}
 use Rattle.table_images.proofs.Failing.{fails}
 use Rattle.table_images.proofs.Images.{between, images, image_behind}
 use Rattle.key_index.specs.Tiling.{IsBuckets}
@@ -84,7 +84,8 @@ kept_of A files stands opened = record {
   timeline = λ t action s time.
       let marked = stands.timeline t action s time in
       record {
-        there = λ reached. marked.there (subst (λ (o : Option Instant). HasReached o action s) (same_instants A t) reached);
+        there = λ reached. subst (λ (o : Option Instant). ReadsAs A.name o action s (get files (timeline_name A t action s))) (sym (same_instants A t))
+            (marked.there (subst (λ (o : Option Instant). HasReached o action s) (same_instants A t) reached));
         only = λ bytes is. subst (λ (o : Option Instant). HasReached o action s) (sym (same_instants A t)) (marked.only bytes is);
       };
   whole = λ group slice version token bytes has. stands.whole group slice version token bytes (record { named = has.named; there = has.there });
@@ -135,7 +136,7 @@ unfolding TimelineFiles WholeBlocks ChainsHold KnownFiles
 fresh_stands name buckets fit = record {
   timeline = λ t action s time. record { there = λ reached. absurd reached; only = λ bytes is. absurd (none (sym (get-empty (slice_cmp nat_cmp) _) ∙ is)) };
   whole = λ group slice version token bytes has. absurd (none (sym (get-empty (slice_cmp nat_cmp) _) ∙ has.there));
-  tiles = λ partition. first-tiling partition buckets fit;
+  tiles = (fit, λ partition. first-tiling partition buckets fit);
   chains = λ group named. (
     empty,
     record {

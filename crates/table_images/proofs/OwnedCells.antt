@@ -1,8 +1,9 @@
 -- Owned instants, at each kind of step.
-use Rattle.std.proofs.Common.{◌≡◌, ◌⊎◌, inl, inr, ◌≤◌, ℕ, Bool, true, false, ◌&&◌, List, [], ◌∷◌, map, Some, refl, sym, ap, ◌∙◌, subst, arith}
+use Rattle.std.proofs.Common.{◌≡◌, ◌⊎◌, inl, inr, ◌≤◌, ◌<◌, ◌+◌, ◌^◌, ◌==◌, ℕ, Bool, true, false, cond, ◌&&◌, List, [], ◌∷◌, map, Some, refl, sym, ap, ◌∙◌, subst, arith}
 use Rattle.std.specs.Prelude.{◌||◌}
 use Rattle.std.specs.List.{All, AllByRecursion, list_any}
 use Rattle.std.specs.Str.{bytes_eq}
+use Rattle.std.proofs.lemmas.Bool.Decides.{nat_tests}
 use Rattle.std.proofs.lemmas.List.Elements.{All-head, All-tail}
 use Rattle.std.proofs.lemmas.Slice.Eq.{bytes_eq-Decides}
 use Rattle.hudi_base.specs.InstantTime.{IsTime}
@@ -16,7 +17,8 @@ use Rattle.file_names.specs.declared.file_name.State.TheVariants.{Requested, Inf
 use Rattle.table_history.specs.After.{after_history, greatest_in}
 use Rattle.table_history.specs.Histories.{History}
 use Rattle.table_history.specs.Instants.{instant_of, begun, entered, with_block}
-use Rattle.table_history.specs.Tables.{Table, Instant}
+use Rattle.table_history.specs.Metadata.{writes_among}
+use Rattle.table_history.specs.Tables.{Table, Instant, Block}
 use Rattle.table_history.specs.Targets.{AreTargets, is_asked, is_live, target_of_group}
 use Rattle.table_history.specs.declared.job.Job.{Job}
 use Rattle.table_history.specs.declared.step.PartitionSlots.{PartitionSlots}
@@ -34,7 +36,7 @@ current_more A H K (s ∷ targets) le all =
 pub owned_more : (A : Table) (H K : History) (t : ℕ) (i : Instant) → greatest_in (after_history A H).instants ≤ greatest_in (after_history A K).instants
     → IsOwnedWrite (after_history A H) t i → IsOwnedWrite (after_history A K) t i
 owned_more A H K t i le owned =
-    record { action = owned.action; pending = owned.pending; time = owned.time; targets = current_more A H K i.targets le owned.targets; unplaced = owned.unplaced }
+    record { action = owned.action; pending = owned.pending; time = owned.time; targets = current_more A H K i.targets le owned.targets; unplaced = owned.unplaced; writes = owned.writes }
 
 pub owned_still : (A : Table) (H K : History) → KeepsLine IsNoMore A H K → greatest_in (after_history A H).instants ≤ greatest_in (after_history A K).instants → OwnedInstants A H → OwnedInstants A K
 unfolding OwnedInstants
@@ -47,6 +49,7 @@ owned_still A H K line le owned t found job is owner =
       time = old.time;
       targets = subst (AllByRecursion (IsCurrent (after_history A K))) (sym was.same.targets) old.targets;
       unplaced = λ requested. was.same.blocks ∙ old.unplaced (sym was.same.state ∙ requested);
+      writes = λ target. subst (λ (blocks : List Block). writes_among target blocks < 2 ^ 32) (sym was.same.blocks) (old.writes target);
     }
 
 -- an instant that advanced, and the others
@@ -62,7 +65,7 @@ owned_advanced A H K t s new advance le here owned u found job is owner = by_cas
     by_case (inr other) = owned_more A H K u found le (owned u found job (sym (advance.others u other) ∙ is) owner)
 
 pub owned-begun : (A : Table) (t : ℕ) (job : Job) (number : ℕ) → IsTime t → IsOwnedWrite A t (begun job number)
-owned-begun A t job number time = record { action = refl; pending = inl refl; time = time; targets = tt; unplaced = λ is. refl }
+owned-begun A t job number time = record { action = refl; pending = inl refl; time = time; targets = tt; unplaced = λ is. refl; writes = λ target. omega arith }
 
 both : (a b : Bool) → (a && b) ≡ true → (a ≡ true) × (b ≡ true)
 both true b h = (refl, h)
@@ -108,16 +111,22 @@ owned-entered A t i slots targets paths are requested owned = record {
   time = owned.time;
   targets = current_targets A slots targets paths are;
   unplaced = λ is. owned.unplaced requested;
+  writes = owned.writes;
 }
 
-pub owned-placed : (A : Table) (t : ℕ) (i : Instant) (target writes : ℕ) (bytes : List ℕ) → i.state ≡ Inflight → IsOwnedWrite A t i → IsOwnedWrite A t (with_block target writes bytes i)
-owned-placed A t i target writes bytes inflight owned = record {
+pub owned-placed : (A : Table) (t : ℕ) (i : Instant) (target writes : ℕ) (bytes : List ℕ) → i.state ≡ Inflight → writes_among target i.blocks + writes < 2 ^ 32 → IsOwnedWrite A t i → IsOwnedWrite A t (with_block target writes bytes i)
+owned-placed A t i target writes bytes inflight few owned = record {
   action = owned.action;
   pending = owned.pending;
   time = owned.time;
   targets = owned.targets;
   unplaced = λ requested. absurd (apart (sym requested ∙ inflight));
+  writes = λ k. by_test k (target == k) refl;
 }
   where
+    by_test : (k : ℕ) (b : Bool) → (target == k) ≡ b → writes_among k i.blocks + cond b writes 0 < 2 ^ 32
+    by_test k true same = subst (λ k. writes_among k i.blocks + writes < 2 ^ 32) (let one : target ≡ k = grind (arith, nat_tests) in one) few
+    by_test k false other = let old = owned.writes k in omega (arith, old)
+
     apart : Requested ≡ Inflight → ⊥
     apart is = let wrong : false ≡ true = ap (λ s. has_reached s Inflight) is in cc

@@ -19,6 +19,7 @@ use Rattle.table_history.specs.declared.operation.Op.TheVariants as op
 use Rattle.table_history.specs.declared.reply.Reply.{Reply}
 use Rattle.table_history.specs.declared.reply.Reply.TheVariants as reply
 use Rattle.table_history.specs.declared.step.Reader.TheVariants as reader
+use Rattle.table_history.specs.declared.step.PartitionSlots.{PartitionSlots}
 use Rattle.table_history.specs.declared.step.Step.{Step}
 use Rattle.table_history.specs.declared.step.Step.TheVariants.{Begin, Enter, Append, Finish, Pin, Unpin, Read, Abandon}
 use Rattle.table_history.specs.declared.view.LivePin.{LivePin}
@@ -75,6 +76,10 @@ module _ (A : Table) (H : History) (image : FileMap) (kept : Kept A image H) (kn
   drawn (reply.Began t) name offset size is = cc
   drawn _ name offset size is = no_read name offset size is
 
+  entering : (t : ℕ) (slots : List PartitionSlots) (r : Reply) (name : List ℕ) (offset size : ℕ) → operation A H (Enter t slots) r ≡ op.Read name offset size → ⊥
+  entering t slots (reply.Entered targets) name offset size is = cc
+  entering t slots _ name offset size is = no_read name offset size is
+
   of_pin : (j : Job) (number at len : ℕ) (o : Option LivePin)
       → ((live : LivePin) → o ≡ Some live → AllByRecursion (λ (part : Part). IsKnownTo (files_of A H) part.name part.length) (files_of_view live.view))
       → IsSomeAnd o (λ live. (live.job ≡ j) × IsSomeAnd (part_at live.view number) (λ part. IsPieceOf part at len)) → (name : List ℕ) (offset size : ℕ)
@@ -85,9 +90,9 @@ module _ (A : Table) (H : History) (image : FileMap) (kept : Kept A image H) (kn
   pub piece_is_there : (j : Job) (s : Step) (r : Reply) (name : List ℕ) (offset size : ℕ) → May A H j s → operation A H s r ≡ op.Read name offset size → IsPieceThere image A H name offset size
   piece_is_there j (Read (reader.Pin pin) number at len) r name offset size may is = of_pin j number at len (pin_of H pin) (known.pins pin) may name offset size is
   piece_is_there j Begin r name offset size may is = absurd (drawn r name offset size is)
-  piece_is_there j (Enter t slots) r name offset size may is = absurd (no_create (timeline_name A t Delta Inflight) [] name offset size is)
+  piece_is_there j (Enter t slots) r name offset size may is = absurd (entering t slots r name offset size is)
   piece_is_there j (Append t target writes bytes) r name offset size may is = absurd (no_reading bytes name offset size (target_at A H t target) is)
-  piece_is_there j (Finish t checkpoint) r name offset size may is = absurd (no_create (timeline_name A t Delta Completed) [] name offset size is)
+  piece_is_there j (Finish t checkpoint) r name offset size may is = absurd (no_create (timeline_name A t Delta Completed) _ name offset size is)
   piece_is_there j (Pin at bases_only) r name offset size may is = absurd (no_read name offset size is)
   piece_is_there j (Unpin pin) r name offset size may is = absurd (no_read name offset size is)
   piece_is_there j (Abandon t) r name offset size may is = absurd (no_read name offset size is)

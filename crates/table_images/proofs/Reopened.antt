@@ -1,5 +1,5 @@
 -- A table that is opened again on files that stood for it.
-use Rattle.std.proofs.Common.{◌≡◌, inl, inr, ◌<◌, ◌+◌, ◌==◌, ℕ, Bool, true, false, cond, List, [], ◌∷◌, map, Option, Some, None, option_map, max, append-nil, refl, sym, ap, ◌∙◌, subst, arith}
+use Rattle.std.proofs.Common.{◌≡◌, inl, inr, ◌<◌, ◌+◌, ◌==◌, ℕ, Bool, true, false, cond, List, [], ◌∷◌, map, Option, Some, None, Ok, option_map, max, append-nil, refl, sym, ap, ◌∙◌, subst, arith}
 use Rattle.std.specs.FinMap.{get}
 use Rattle.std.specs.List.{AllByRecursion}
 use Rattle.hudi_base.specs.Files.{FileMap}
@@ -7,9 +7,11 @@ use Rattle.hudi_base.specs.declared.file_group.GroupRef.{GroupRef}
 use Rattle.file_names.specs.declared.file_name.Action.{Action}
 use Rattle.file_names.specs.declared.file_name.FileName.TheVariants as file
 use Rattle.file_names.specs.declared.file_name.State.{State}
+use Rattle.file_names.specs.declared.file_name.State.TheVariants.{Requested, Inflight, Completed}
 use Rattle.file_names.specs.declared.file_name.Token.{Token}
 use Rattle.log_block.specs.declared.block.Block.{Block}
 use Rattle.table_history.specs.After.{reopened, greatest_in, next_session}
+use Rattle.table_history.specs.Metadata.{metadata}
 use Rattle.table_history.specs.Tables.{Table, Instant, KnownFile, instant_at}
 use Rattle.table_history.proofs.Bounds.{reopened_opened}
 use Rattle.table_images.specs.Chains.{ChainsHold, FinishedBefore, HoldsWrites, blocks_of_chain}
@@ -17,7 +19,7 @@ use Rattle.table_images.specs.KnownFiles.{KnownFiles, BeginsWithKnown}
 use Rattle.table_images.specs.LogTexts.{WholeBlocks, blocks_in}
 use Rattle.table_images.specs.Numbers.{IsEarliest, IsUpTo}
 use Rattle.table_images.specs.Stands.{StandsFor, IsJustOpened, IsKnownOnce, IsListing, Knows}
-use Rattle.table_images.specs.Timeline.{TimelineFiles, HasReached}
+use Rattle.table_images.specs.Timeline.{TimelineFiles, HasReached, ReadsAs, timeline_name}
 use Rattle.table_images.proofs.Lines.{none_some, some_same}
 
 abbrev unowned : Instant → Instant
@@ -72,6 +74,17 @@ base_session (k ∷ fs) group token t (inr more) = later _ token.session (next_s
     later : (a b c : ℕ) → b < c → b < max a c
     later a b c lt = omega (arith, lt)
 
+-- what an instant says doesn't depend on its owner
+said_unowned : (i : Instant) (s : State) → metadata (unowned i) s ≡ metadata i s
+said_unowned i Requested = refl
+said_unowned i Inflight = refl
+said_unowned i Completed = refl
+
+reads_unowned : (table : List ℕ) (o : Option Instant) (action : Action) (s : State) (c : Option (List ℕ)) → ReadsAs table o action s c → ReadsAs table (option_map unowned o) action s c
+reads_unowned table None action s c reads = reads
+reads_unowned table (Some i) action s None reads = reads
+reads_unowned table (Some i) action s (Some bytes) reads = reads ∙ ap Ok (sym (said_unowned i s))
+
 -- ---- the parts
 
 reached_back : (o : Option Instant) (action : Action) (s : State) → HasReached (option_map unowned o) action s → HasReached o action s
@@ -109,7 +122,8 @@ stands_again image A tries files stands listing = record {
       let back : HasReached (instant_at (reopened A files).instants t) action s → HasReached (instant_at A.instants t) action s =
       λ reached. reached_back (instant_at A.instants t) action s (subst (λ (o : Option Instant). HasReached o action s) (at_reopened A.instants t) reached) in
       record {
-        there = λ reached. marked.there (back reached);
+        there = λ reached. subst (λ (o : Option Instant). ReadsAs A.name o action s (get image (timeline_name A t action s))) (sym (at_reopened A.instants t))
+            (reads_unowned A.name (instant_at A.instants t) action s (get image (timeline_name A t action s)) (marked.there (back reached)));
         only = λ bytes is. subst (λ (o : Option Instant). HasReached o action s) (sym (at_reopened A.instants t)) (reached_on (instant_at A.instants t) action s (marked.only bytes is));
       };
   whole = λ group slice version token bytes has. stands.whole group slice version token bytes (record { named = has.named; there = has.there });

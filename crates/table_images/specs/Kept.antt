@@ -1,6 +1,6 @@
 -- What an image of a table has to keep from step to step: more than that it stands for the table. What is added speaks
 -- of owned instants and of the logs that this session appends to, so it says nothing of a table that was just opened.
-use Rattle.std.specs.Prelude.{◌≡◌, ◌⊎◌, ℕ, ◌<◌, ◌≤◌, true, false, List, [], Some}
+use Rattle.std.specs.Prelude.{◌≡◌, ◌⊎◌, ℕ, ◌<◌, ◌≤◌, ◌^◌, true, false, List, [], Some}
 use Rattle.std.specs.FinMap.{get}
 use Rattle.std.specs.List.{AllByRecursion}
 use Rattle.hudi_base.specs.Files.{FileMap}
@@ -18,6 +18,7 @@ use Rattle.table_history.specs.After.{after_history, greatest_in}
 use Rattle.table_history.specs.Histories.{History}
 use Rattle.table_history.specs.Instants.{instant_of}
 use Rattle.table_history.specs.Logs.{attempts, is_unused, version_in_use, bytes_of}
+use Rattle.table_history.specs.Metadata.{writes_among}
 use Rattle.table_history.specs.Tables.{Table, Instant}
 use Rattle.table_history.specs.Targets.{is_live, target_of_group}
 use Rattle.table_history.specs.declared.job.Job.{Job}
@@ -38,13 +39,15 @@ pub record IsCurrent (A : Table) (s : Target) : Type 0 where
   pub slice : s.slice ≡ (target_of_group s.group).slice
   pub bounded : s.slice ≤ greatest_in A.instants
 
--- a deltacommit that isn't completed, of a time that instants may have, whose targets are current
+-- a deltacommit that isn't completed, of a time that instants may have, whose targets are current and have fewer than
+-- 2^32 writes each
 pub record IsOwnedWrite (A : Table) (t : ℕ) (i : Instant) : Type 0 where
   pub action : i.action ≡ Delta
   pub pending : (i.state ≡ state.Requested) ⊎ (i.state ≡ state.Inflight)
   pub time : IsTime t
   pub targets : AllByRecursion (IsCurrent A) i.targets
   pub unplaced : i.state ≡ state.Requested → i.blocks ≡ []
+  pub writes : (target : ℕ) → writes_among target i.blocks < 2 ^ 32
 
 -- each instant that a job owns is such a one
 unfoldable pub OwnedInstants : Table → History → Type 0

@@ -1,6 +1,6 @@
 -- Runs: the entries of a history, each with what it did to the files of a store. As in a history, the last one stands
 -- first.
-use Rattle.std.specs.Prelude.{◌≡◌, ℕ, List, [], ◌∷◌, ◌++◌, take, Option, Some, None, IfSome}
+use Rattle.std.specs.Prelude.{◌≡◌, ℕ, ◌<◌, ◌+◌, ◌^◌, List, [], ◌∷◌, ◌++◌, take, Option, Some, None, IfSome}
 use Rattle.std.specs.FinMap.{get}
 use Rattle.hudi_base.specs.Files.{FileMap, changed}
 use Rattle.hudi_base.specs.InstantTime.{IsTime}
@@ -13,6 +13,7 @@ use Rattle.table_history.specs.Answers.{IsNext}
 use Rattle.table_history.specs.Histories.{History, own}
 use Rattle.table_history.specs.JobLaw.{Work, Allows, phase}
 use Rattle.table_history.specs.Logs.{target_at, version_in_use, attempt_in_use, log_file}
+use Rattle.table_history.specs.Metadata.{writes_of}
 use Rattle.table_history.specs.Operations.{operation}
 use Rattle.table_history.specs.Tables.{Table}
 use Rattle.table_history.specs.declared.entry.Entry.{Entry}
@@ -61,11 +62,19 @@ NamesFit A H step.Begin (reply.Began t) = IsTime t
 NamesFit A H (step.Append t target writes bytes) r = IfSome (target_at A H t target) (λ s. IsNamed (log_in_use A H s))
 NamesFit A H _ r = Unit {0}
 
--- An entry may come next: the reply is the machine's, the step is by its job's law, and the names have a form.
+-- The numbers in metadata fit: the writes of a target have 32 bits, and a checkpoint has 64.
+abbrev pub NumbersFit : Table → History → Step → Type 0
+NumbersFit A H (step.Append t target writes bytes) = writes_of A H t target + writes < 2 ^ 32
+NumbersFit A H (step.Finish t checkpoint) = IfSome checkpoint (λ n. n < 2 ^ 64)
+NumbersFit A H _ = Unit {0}
+
+-- An entry may come next: the reply is the machine's, the step is by its job's law, the names have a form, and the
+-- numbers fit.
 pub record MayCome (work : Work) (A : Table) (H : History) (e : Entry) : Type 0 where
   pub next : IsNext A H e
   pub allowed : Allows work e.job (phase (own e.job H)) e.step
   pub names : NamesFit A H e.step e.reply
+  pub numbers : NumbersFit A H e.step
 
 -- and did what its step and its reply say
 pub record MayHappen (work : Work) (A : Table) (H : History) (h : Happened) : Type 0 where

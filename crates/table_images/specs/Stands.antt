@@ -1,5 +1,5 @@
 -- When the files of a store stand for a table: what queries and a later opening of the table rely on. So far a table
--- has deltacommits alone, one file group, and timeline files without content.
+-- has deltacommits alone.
 use Rattle.std.specs.Prelude.{◌≡◌, ◌≢◌, ◌⊎◌, ◌≤◌, ℕ, ◌+◌, List, [], ◌∷◌, length, take, drop, Some}
 use Rattle.std.specs.FinMap.{get}
 use Rattle.std.specs.List.{AllByRecursion}

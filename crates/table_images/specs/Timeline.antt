@@ -1,14 +1,16 @@
--- The files of the timeline: those of the table's instants and of the states that they have reached, and no others. For
--- now they are empty. The names and the states follow Hudi's timeline.
-use Rattle.std.specs.Prelude.{◌≡◌, ℕ, Bool, true, false, List, [], Option, Some, None}
+-- The files of the timeline: those of the table's instants and of the states that they have reached, each with its
+-- metadata, and no others. The names and the states follow Hudi's timeline.
+use Rattle.std.specs.Prelude.{◌≡◌, ℕ, Bool, true, false, List, Option, Some, None, Ok, IsSomeAnd}
 use Rattle.std.specs.FinMap.{get}
 use Rattle.hudi_base.specs.Files.{FileMap}
 use Rattle.hudi_base.specs.InstantTime.{IsTime}
+use Rattle.commit_meta.specs.Metadata.{meta_of}
 use Rattle.file_names.specs.FileName.{name_of}
 use Rattle.file_names.specs.declared.file_name.Action.{Action}
 use Rattle.file_names.specs.declared.file_name.FileName.TheVariants as file
 use Rattle.file_names.specs.declared.file_name.State.{State}
 use Rattle.file_names.specs.declared.file_name.State.TheVariants.{Requested, Inflight, Completed}
+use Rattle.table_history.specs.Metadata.{metadata}
 use Rattle.table_history.specs.Tables.{Table, Instant, instant_at}
 
 -- An instant is requested, then inflight, then completed: whether one in the first state has reached the second.
@@ -28,9 +30,16 @@ HasReached (Some i) action s = (i.action ≡ action) × (has_reached i.state s �
 abbrev pub timeline_name : Table → ℕ → Action → State → List ℕ
 timeline_name A t action s = name_of A.name (file.Instant t action s)
 
--- the file that marks a state of an instant: it is there, and empty, exactly where the instant has reached that state
+-- A file is there, and reads as what an instant has to say in this state. So far an instant is a deltacommit: a file of
+-- another action reads as nothing that one says.
+abbrev pub ReadsAs : List ℕ → Option Instant → Action → State → Option (List ℕ) → Type 0
+ReadsAs table None action s file = ⊥
+ReadsAs table (Some i) action s file = IsSomeAnd file (λ bytes. meta_of table action s bytes ≡ Ok (metadata i s))
+
+-- the file that marks a state of an instant is there, with its metadata, exactly where the instant has reached that state
 pub record IsMarked (image : FileMap) (A : Table) (t : ℕ) (action : Action) (s : State) : Type 0 where
-  pub there : HasReached (instant_at A.instants t) action s → get image (timeline_name A t action s) ≡ Some []
+  pub there : HasReached (instant_at A.instants t) action s
+      → ReadsAs A.name (instant_at A.instants t) action s (get image (timeline_name A t action s))
   pub only : (bytes : List ℕ) → get image (timeline_name A t action s) ≡ Some bytes
       → HasReached (instant_at A.instants t) action s
 

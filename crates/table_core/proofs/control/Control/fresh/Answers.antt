@@ -14,8 +14,9 @@ returns c = record {
   last = refl;
   completed = search rules;
   targets = λ t. ap (λ o. unwrap_or o []) (c.new-3.ensures t);
-  slices = λ s. no_slice c.args.table c.args.buckets s _ (c.new-4.ensures s);
+  writes = λ t target. ap (λ o. unwrap_or o 0) (c.new-4.ensures (record { t = t; number = target }));
+  slices = λ s. no_slice c.args.table c.args.buckets s _ (c.new-5.ensures s);
   attempts = refl;
-  pins = elim [ reader.Pin pin ↦ λ file. no_part file _ (c.new-5.ensures pin) ];
+  pins = elim [ reader.Pin pin ↦ λ file. no_part file _ (c.new-6.ensures pin) ];
   pins_made = refl;
 }

@@ -26,8 +26,8 @@ returns-in-Enter c = λ A H is next.
 pub returns-in-Append : goal.returns-in-Append
 returns-in-Append c = λ A H is next.
     let e = c.args.entry.now in
-    let P : Step → Type 0 = λ s. Answers A H s e.reply → IsControl A (record { job = e.job; step = s; reply = e.reply } ∷ H) c.take_append.new.self in
-    subst P (sym c.in-Append.is) (c.take_append.ensures A H e.job c.in-Append.writes c.in-Append.bytes (ap length (sym c.as_slice.ensures)) is) next.answers
+    let P : Step → Type 0 = λ s. May A H e.job s → Answers A H s e.reply → IsControl A (record { job = e.job; step = s; reply = e.reply } ∷ H) c.take_append.new.self in
+    subst P (sym c.in-Append.is) (c.take_append.ensures A H e.job c.in-Append.bytes (ap length (sym c.as_slice.ensures)) is) next.may next.answers
 
 pub returns-in-Finish : goal.returns-in-Finish
 returns-in-Finish c = λ A H is next.
