@@ -25,6 +25,10 @@ using std::string_view;
 
 static const char *LOG = "x/.0000ffff-c50d-5b40-af36-b8949fde563e-0_20000101000000000.log.1_0-0-0";
 
+// What metadata says of the one group, up to the number of its writes.
+static const string GROUP =
+    "{\"base\":\"20000101000000000\",\"file\":\"0000ffff-c50d-5b40-af36-b8949fde563e-0\",\"partition\":\"x\"";
+
 struct Row {
     string_view key;
     int64_t rank;
@@ -42,26 +46,32 @@ static void must(bool held, const char *what) {
     }
 }
 
-static void make(const string &name) {
-    if (bare) {
+static void put(int file, const string &bytes, const char *name) {
+    for (size_t at = 0; at < bytes.size();) {
+        ssize_t wrote = write(file, bytes.data() + at, bytes.size() - at);
+        must(wrote > 0, name);
+        at += wrote;
+    }
+}
+
+static void make(const string &name, const string &bytes) {
+    if (bare && bytes.empty()) {
         must(mknodat(timeline, name.c_str(), S_IFREG | 0644, 0) == 0, name.c_str());
         return;
     }
     int file = openat(timeline, name.c_str(), O_WRONLY | O_CREAT | O_EXCL, 0644);
     must(file >= 0, name.c_str());
+    put(file, bytes, name.c_str());
+    if (!bare && !bytes.empty()) must(fsync(file) == 0, name.c_str());
     close(file);
-    must(fsync(timeline) == 0, "sync of the timeline");
+    if (!bare) must(fsync(timeline) == 0, "sync of the timeline");
 }
 
 static void append(const string &bytes) {
     bool first = log_file < 0;
     if (first) log_file = openat(root, LOG, O_WRONLY | O_CREAT | O_APPEND, 0644);
     must(log_file >= 0, LOG);
-    for (size_t at = 0; at < bytes.size();) {
-        ssize_t wrote = write(log_file, bytes.data() + at, bytes.size() - at);
-        must(wrote > 0, LOG);
-        at += wrote;
-    }
+    put(log_file, bytes, LOG);
     if (bare) return;
     must(fsync(log_file) == 0, LOG);
     if (first) must(fsync(partition) == 0, "sync of the partition");
@@ -216,12 +226,13 @@ int main(int count, char **words) {
             rows.push_back({row["key"].get_string().value(), row["rank"].get_int64().value(),
                             row["body"].get_string().value(), uint32_t(times.size()), uint32_t(rows.size() - first)});
         times.push_back(time);
-        make(time + ".deltacommit.requested");
-        make(time + ".deltacommit.inflight");
+        make(time + ".deltacommit.requested", "");
+        make(time + ".deltacommit.inflight", "{\"groups\":[" + GROUP + "}]}");
         block.clear();
         put_block(block, time, rows.data() + first, rows.size() - first);
         append(block);
-        make(time + ".deltacommit");
+        string writes = ",\"writes\":" + std::to_string(rows.size() - first);
+        make(time + ".deltacommit", "{\"checkpoint\":null,\"groups\":[" + GROUP + writes + "}]}");
         text.append(line).append(" upsert committed ").append(time).push_back('\n');
         string mark = "mark 1 " + line + " ";
         marks.append(mark).append("begin began ").append(instant).append(" 0\n");
