@@ -69,17 +69,36 @@ impl<R: Files + Drop> Disk<R> {
         path: &str,
         bytes: &[u8],
     ) -> io::Result<bool> {
-        self.make_folders(alloc, folder_of(temporary))?;
-        let mut file = fs::create(&self.rt, temporary)?;
+        let mut file = self.create_over(alloc, temporary)?;
         write_synced(&mut file, bytes)?;
         if where_found(fs::symlink_metadata(&self.rt, path))?.is_some() {
             return Ok(false);
         }
-        let folder = folder_of(path);
-        self.make_folders(alloc, folder)?;
-        fs::rename(&self.rt, temporary, path)?;
-        self.sync_folder(alloc, folder)?;
+        self.rename_to(alloc, temporary, path)?;
+        self.sync_folder(alloc, folder_of(path))?;
         Ok(true)
+    }
+
+    // Makes a file anew, whatever is in its place. Its folder is made where it is missing.
+    fn create_over(&mut self, alloc: Global, path: &str) -> io::Result<R::File> {
+        match fs::create(&self.rt, path) {
+            Err(error) if error.kind() == ErrorKind::NotFound => {
+                self.make_folders(alloc, folder_of(path))?;
+                fs::create(&self.rt, path)
+            }
+            answer => answer,
+        }
+    }
+
+    // Gives a file another path, whose folder is made where it is missing.
+    fn rename_to(&mut self, alloc: Global, from: &str, path: &str) -> io::Result<()> {
+        match fs::rename(&self.rt, from, path) {
+            Err(error) if error.kind() == ErrorKind::NotFound => {
+                self.make_folders(alloc, folder_of(path))?;
+                fs::rename(&self.rt, from, path)
+            }
+            answer => answer,
+        }
     }
 
     /// Adds bytes at the end of a file, and makes it where it is absent.

@@ -26,8 +26,8 @@ fn files_and_their_folders_are_synced(rt: HostRuntime) -> Result<(), Fail> {
         (
             Call::Create("a/b", "1"),
             "make /s\nsync \nmake /s/.hoodie\nsync /s\nmake /s/.hoodie/.temp\nsync /s/.hoodie\n\
-             write to /s/.hoodie/.temp/new\nsync /s/.hoodie/.temp/new\nmake /s/a\nsync /s\n\
-             rename to /s/a/b\nsync /s/a\n",
+             write to /s/.hoodie/.temp/new\nsync /s/.hoodie/.temp/new\nrename to /s/a/b\n\
+             make /s/a\nsync /s\nrename to /s/a/b\nsync /s/a\n",
         ),
         (Call::Create("a/e", ""), "sync /s/a\n"),
         (
