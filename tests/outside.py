@@ -142,7 +142,7 @@ def front_of(script, folder):
         name, data, made = changes[done]
         rest = found.get(name, b"")[len(whole.get(name, b"")):]
         assert data.startswith(rest) and not (made and name in found), f"no front of step {done}: {name}"
-        if rest:
+        if name in found:  # a log may have been made and got no byte yet
             whole[name] = whole.get(name, b"") + rest
     check_files(found, whole)
     return done, len(changes), len(rest)

@@ -245,7 +245,7 @@ if [ -c /dev/full ]; then
     "$program" >/dev/full 2>err || status=$?
     expect "standard output is full for the usage line" 6 - true
     status=0
-    "$program" full.e run 1 </dev/null >/dev/full 2>err || status=$?
+    echo x | "$program" full.e run 1 >/dev/full 2>err || status=$?
     expect "standard output is full for a bad line" 6 - nothing_at full.e
 else
     skip "standard output is full" "no /dev/full"
