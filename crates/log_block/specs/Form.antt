@@ -56,8 +56,8 @@ entry_count types.Data = 2
 unfoldable pub entry : HeaderKey → List ℕ → List ℕ
 entry key text = big_bytes 4 (key_number key) ++ with_length (big_bytes 4) text
 
--- The number of entries, and these in the order of their keys: the time of the block's instant, then of a rollback the
--- time of the instant that is rolled back, of data the schema, of a command which one it is: a rollback has the text 0.
+-- The number of entries, then the entries in the order of their keys: the time of the block's instant; of data the schema; of
+-- a rollback the time of its target, and the command, 0.
 unfoldable pub header : Block → List ℕ
 header (Data instant schema content) =
     big_bytes 4 (entry_count types.Data) ++ entry keys.InstantTime (time_text instant) ++ entry keys.Schema schema

@@ -1,4 +1,4 @@
--- The parts of a block that lie in the bytes read, which private clauses speak of.
+-- The parts of a block that lie in the bytes read, which contracts of private functions speak of.
 use Rattle.std.specs.Prelude.{◌≡◌, ◌⊎◌, ℕ, ◌+◌, ◌<◌, ◌≤◌, List, length, take, drop}
 use Rattle.log_block.specs.declared.block.Block.{Block}
 use Rattle.log_block.specs.declared.block.Block.TheVariants.{Data, Delete, Rollback}

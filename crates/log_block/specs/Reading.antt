@@ -20,6 +20,8 @@ use Rattle.log_block.specs.declared.format.HeaderKey.TheVariants as keys
 
 -- ---- the header
 
+-- `Reading`, `do` and `only_if` are those of `byte_fields` (specs/Reading.antt): an answer with the bytes behind it, or a refusal.
+
 -- the text of the entry of that key
 unfoldable pub entry_at : HeaderKey → List ℕ → Reading (List ℕ)
 entry_at key bytes = do
@@ -105,7 +107,7 @@ inside_at bytes = do
 abbrev pub begins : List ℕ → Bool
 begins bytes = starts_with nat_eq magic (take 6 bytes)
 
--- how many bytes the block has behind its length
+-- how many bytes the block has behind its length, from the first eight bytes after the magic
 abbrev pub length_of : List ℕ → ℕ
 length_of bytes = big_number 8 (drop 6 bytes)
 

@@ -6,10 +6,10 @@ use hudi_base::{Bytes, InstantTime};
 use std::alloc::AllocError;
 use thiserror::Error;
 
-/// A block of a log file. Its instant is the one that wrote it.
+/// A block of a log file. Its instant is the commit time of the write that made it.
 #[derive(Drop)]
 pub enum Block {
-    /// Rows, in Avro. The schema is a text in UTF-8 of less than 2^32 bytes.
+    /// Rows, as the bytes that a codec makes of them. The schema is a text in UTF-8 of less than 2^32 bytes.
     Data {
         instant: InstantTime,
         schema: Bytes,
@@ -20,7 +20,7 @@ pub enum Block {
         instant: InstantTime,
         content: Bytes,
     },
-    /// A command: the blocks of the target instant don't count.
+    /// A command: readers ignore the blocks of the target instant.
     Rollback {
         instant: InstantTime,
         target: InstantTime,

@@ -22,7 +22,7 @@ pub const SIZE_LEN: usize = 8;
 /// The version of the format.
 pub const VERSION: u32 = 1;
 
-/// The number of entries of a footer.
+/// The number of entries of a footer: pairs of a key and a text, as a header has them.
 pub const FOOTER_ENTRIES: u32 = 0;
 
 /// The one command, a rollback.
@@ -86,7 +86,7 @@ impl BlockType {
     }
 }
 
-/// The key of a header's entry.
+/// The key of an entry of a header, whose value is a text.
 #[derive(Clone, Copy)]
 pub enum HeaderKey {
     InstantTime,

@@ -1,4 +1,4 @@
-// Reading headers. A result that holds a time is taken apart by `match`, since the checker takes no `?` there.
+// Reading headers. A result that holds a time is taken apart by `match`, since the prover takes no `?` there.
 ghost use Rattle.std.specs.Prelude.{◌≡◌};
 ghost use Rattle.std.specs.Str.{is_utf8};
 ghost use Rattle.byte_fields.specs.Reading.{Gives};

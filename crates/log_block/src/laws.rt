@@ -21,7 +21,7 @@ pub fn cut_is_torn()
     ensures { (block : Block) (len : ℕ) → Fits block → len < length (block_bytes block) → block_at (take len (block_bytes block)) ≡ Torn }
 {}
 
-/// When bytes are torn, and that what stands there never wants memory.
+/// When bytes are torn, and that `block_at` is never `Memory`.
 pub fn when_torn()
     ensures torn { (bytes : List ℕ) → (block_at bytes ≡ Torn) ↔ IsTorn bytes }
     ensures memory { (bytes : List ℕ) → block_at bytes ≢ Memory }

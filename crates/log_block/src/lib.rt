@@ -1,5 +1,5 @@
-//! The blocks of a log file of a merge-on-read table: a profile of the log format of Apache Hudi, in which each
-//! block has one form.
+//! The blocks of a log file of a merge-on-read table: a subset of the log format of Apache Hudi, in which each
+//! block has one form (docs/formats/log-blocks.md).
 //!
 //! Its contract: what is written is that form, what is read whole is that form, and of any other bytes it is said
 //! whether the block is cut off or at which offset it is bad. It stands on `hudi_base` for bytes and times, on

@@ -107,6 +107,7 @@ fn ends_at(size: u64, bytes: &[u8]) -> Result<(), FieldError>
 /// The parts of a block from the bytes behind its length, up to its end.
 #[tactic(auto, unfolding(crate::specs::Reading::inside_at))]
 pub fn inside_at(bytes: &[u8]) -> Result<Parts<'_>, FieldError>
+    // The block has 14 bytes before these, of which its length counts all but 8.
     requires { length bytes.now + 6 < 2 ^ 64 }
     ensures { Gives (λ x. block_of x) result (inside_at bytes.now) }
 {

@@ -77,7 +77,7 @@ fn block_at(alloc: Global, bytes: &[u8]) -> BlockRead
 /// What stands at the beginning of bytes, of which there is at least one. Bytes behind the block are not looked at.
 pub fn read_block(alloc: Global, bytes: &[u8]) -> BlockRead
     requires { 0 < length bytes.now }
-    // The answer is what stands there; that memory has run out is said of whole blocks alone.
+    // The answer is what stands there; `Memory` comes only where a whole block does.
     ensures there { Answers result (block_at bytes.now) }
     // A whole block stands there in its one form.
     ensures whole { IfWhole result (λ block len. IsWritten bytes.now block len) }
