@@ -125,6 +125,32 @@ const ROWS: [(&str, &str); 33] = [
     ),
 ];
 
+// A table whose ordering field is an int that may be null.
+const INT_ORDERING: &str = "hoodie.table.name=t
+hoodie.table.type=MERGE_ON_READ
+hoodie.table.version=6
+hoodie.table.recordkey.fields=id
+hoodie.table.partition.fields=p
+hoodie.table.precombine.field=v
+hoodie.timeline.layout.version=1
+profile.buckets=1
+profile.schema={\"fields\":[{\"name\":\"id\",\"type\":\"string\"},{\"name\":\"p\",\"type\":\"string\"},{\"name\":\"v\",\"type\":[\"null\",\"int\"]}],\"name\":\"r\",\"type\":\"record\"}
+";
+
+// Rows of it.
+const INT_ROWS: [(&str, &str); 4] = [
+    (
+        r#"{"id":"a","p":"x","v":2147483647}"#,
+        "x/a@2147483647 0261027802feffffff0f",
+    ),
+    (
+        r#"{"id":"a","p":"x","v":-2147483648}"#,
+        "x/a@-2147483648 0261027802ffffffff0f",
+    ),
+    (r#"{"id":"a","p":"x","v":2147483648}"#, "mismatch 2"),
+    (r#"{"id":"a","p":"x"}"#, "no ordering value"),
+];
+
 fn layout_of(alloc: Global, props: &Props) -> Result<RowLayout, RowError>
     requires { has_typed_places props.now ≡ true }
 {
@@ -193,8 +219,10 @@ fn row_misread(
 #[test]
 fn rows_are_made_or_refused_by_the_first_rule(rt: HostRuntime) -> Result<(), Fail> {
     let alloc = rt.alloc();
-    let layout = layout(alloc, PROPERTIES)?;
-    assert_eq!(rt; row_misread(alloc, &layout, &ROWS)?, None);
+    let longs = layout(alloc, PROPERTIES)?;
+    assert_eq!(rt; row_misread(alloc, &longs, &ROWS)?, None);
+    let ints = layout(alloc, INT_ORDERING)?;
+    assert_eq!(rt; row_misread(alloc, &ints, &INT_ROWS)?, None);
     Ok(())
 }
 
