@@ -11,6 +11,11 @@ const JOB: Job = Job { lane: 1, line: 1 };
 // 2024-01-01, in milliseconds.
 const T0: u64 = 1_704_067_200_000;
 
+// What the inflight file says of the one group of x in the table t. The tail of its file id is the version 5 UUID of `t/x` in
+// the URL namespace.
+const CLAIMS: &str =
+    r#"{"groups":[{"base":"20000101000000000","file":"0000ffff-4f01-52df-a6be-557d177dca72-0","partition":"x"}]}"#;
+
 // A mark of that job.
 fn mark(step: u8, reply: u8, a: u64, b: u64) -> Mark {
     Mark {
@@ -40,7 +45,7 @@ fn an_upsert_makes_its_files(rt: HostRuntime) -> Result<(), Fail> {
     assert_eq!(rt; store.file_count(), 4);
     assert_eq!(rt; store.operations().len(), 4);
     let inflight = Name::from_text(alloc, ".hoodie/20240101000000000.deltacommit.inflight")?;
-    assert_eq!(rt; store.file(&inflight), Some([].as_slice()));
+    assert_eq!(rt; store.file(&inflight), Some(CLAIMS.as_bytes()));
     Ok(())
 }
 
