@@ -27,8 +27,9 @@ ReadsAll input.Memory old new = Unit {0}
 abbrev pub Writes : Option (List ℕ) → Option (List ℕ) → List ℕ → Type 0
 Writes old new bytes = new ≡ option_map (λ written. written ++ bytes) old
 
--- a prefix of the bytes was written, and then the sink failed
+-- a prefix of the bytes was written, not all of them, and then the sink failed
 pub record WritesPrefix (old new : SinkState) (bytes : List ℕ) : Type 0 where
-  pub length : ℕ
-  pub prefix : Writes old.written new.written (take length bytes)
+  pub count : ℕ
+  pub few : count < length bytes
+  pub prefix : Writes old.written new.written (take count bytes)
   pub cause : Rose old.faults new.faults

@@ -4,7 +4,7 @@ ghost use Rattle.script_run.specs.Ends.{Writes, WritesPrefix};
 
 use hudi_base::{Sent, Sink};
 
-/// Writes all of the bytes. Where the sink fails, a prefix of them was written.
+/// Writes all of the bytes. Where the sink fails, a prefix of them was written, not all.
 #[tactic(auto, using(crate::proofs::EndParts::ends))]
 pub(crate) fn write_all<W: Sink>(sink: &mut W, bytes: &[u8]) -> bool
     ensures written { MatchBool result
