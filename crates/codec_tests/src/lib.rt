@@ -1,10 +1,13 @@
-//! Tests of `row_codec`, as tables: contents of data blocks that another writer made and cells of base files, with
-//! their refusals; and a row that is written, shown as JSON and read back from the cells of a base file.
+//! Tests of `row_codec`, as tables: contents of data blocks that another writer made, cells of base files, and
+//! schemas that aren't flat, with their refusals; and a row that is written, shown as JSON and read back from the
+//! cells of a base file.
 #![tactic(auto)]
 
 #[cfg(test)]
 mod cells;
 #[cfg(test)]
 mod contents;
+#[cfg(test)]
+mod schemas;
 #[cfg(test)]
 mod table;

@@ -1,8 +1,9 @@
-// Contents of data blocks: the properties of a table, a zero byte, and then rows as lines of JSON.
+// Contents of data blocks: the properties of a table, a zero byte, and then rows as lines of JSON or contents.
 ghost use Rattle.std.specs.Prelude.{◌≡◌, ◌≤◌, true, length, IfOk};
 ghost use Rattle.row_values.specs.Layouts.{has_typed_places};
 ghost use Rattle.row_values.specs.RowCells.{IsOwnRow};
 
+use crate::{blocks, folds};
 use anyhow::{Result, bail};
 use hudi_base::{Bytes, InstantTime, Name};
 use payload_merge::{Row, RowCodec, RowError};
@@ -15,17 +16,21 @@ use table_props::{Props, parse_props};
 
 const FILE: &str = "f";
 
-/// What a command makes of the input: `write` for each row, in hexadecimal digits, the content of a block that has it alone. The
-/// blocks are those of the instant 20240101000000001 in the file group `f`, and a row's place is that of its line.
+/// What a command makes of the input. The blocks are those of the instant 20240101000000001 in the file group `f`. `write`
+/// gives for each row, in hexadecimal digits, the content of a block that has it alone, where a row's place is that of
+/// its line. Contents that are read stand behind their lengths: `show` gives a line of JSON for each row, and `fold` how
+/// many rows are left of them, and the sum of their ranks.
 pub fn output_of(alloc: Global, command: &str, input: &[u8]) -> Result<Bytes> {
-    if command != "write" {
-        bail!("no such command");
-    }
-    let Some((properties, lines)) = split_once(0, input) else {
+    let Some((properties, rest)) = split_once(0, input) else {
         bail!("no properties");
     };
     let codec = codec(alloc, properties)?;
-    written(alloc, &codec, lines)
+    match command {
+        "fold" => folds::told_of(alloc, &codec, rest),
+        "show" => blocks::lines_of(alloc, &codec, rest),
+        "write" => written(alloc, &codec, rest),
+        _ => bail!("no such command"),
+    }
 }
 
 fn codec_of(alloc: Global, props: &Props) -> Result<FlatCodec, RowError>

@@ -1,5 +1,5 @@
-//! `codec_tool FORMAT COMMAND`: reads a format on the standard input and writes it on the standard output, so that other
-//! programs can be tried beside these crates.
+//! `codec_tool FORMAT COMMAND`: reads a format on the standard input and writes it on the standard output, so that
+//! other programs can be tried beside these crates.
 //!
 //! A format has a file of its own, and each of its commands is a function there. Nothing is claimed here: the contracts
 //! stand in the crates of the formats.
@@ -8,8 +8,11 @@
 mod avro;
 mod avro_json;
 mod base;
+mod blocks;
 mod contents;
+mod folds;
 mod json_avro;
+mod plain;
 
 use anyhow::{Result, bail};
 use hudi_base::Bytes;
@@ -38,6 +41,11 @@ fn output_of(alloc: Global, words: &[String], input: &[u8]) -> Result<Bytes> {
         [format, command] if format.as_str() == "contents" => {
             contents::output_of(alloc, command.as_str(), input)
         }
-        _ => bail!("usage: codec_tool avro copy|decode|encode, base write|read, or contents write"),
+        [format, command] if format.as_str() == "plain" => {
+            plain::output_of(alloc, command.as_str(), input)
+        }
+        _ => bail!(
+            "usage: codec_tool avro copy|decode|encode, base write|read, contents fold|show|write, or plain fold"
+        ),
     }
 }
