@@ -117,7 +117,7 @@ values_in-Record : (vs : List Value) → values_in (out-Value (Record vs)) ≡ v
 unfolding values_in
 values_in-Record vs = search (rules, the_lemmas)
 
-same_record : (vs ws : List Value) → Record vs ≡ Record ws → vs ≡ ws
+pub same_record : (vs ws : List Value) → Record vs ≡ Record ws → vs ≡ ws
 same_record vs ws e = sym (values_in-Record vs) ∙ ap (λ (v : Value). values_in (out-Value v)) e ∙ values_in-Record ws
 
 abbrev Pairing : (Value × ℕ) × List ℕ → (Value × ℕ) × List ℕ → Type 0
@@ -148,7 +148,7 @@ cells_again fields cells fit =
     bind_is (fields_from (typed_fields fields) [] 1000000 bytes) ((values, 1000000 - item_count (Record values)), []) (λ found. only_if (eqb (length found.1) 0) found.1 (map cell_in found.0.0)) read
     ∙ ap (λ (cs : List Value). let r : Result (List Value) FieldError = Ok cs in r) (cells_back fields cells fit)
 
-fit_of : (fields : List FlatField) (bytes : List ℕ) (vs : List Value) (k : ℕ) (rest : List ℕ) → fields_from (typed_fields fields) [] 1000000 bytes ≡ Ok ((vs, k), rest) → FitFields (typed_fields fields) vs
+pub fit_of : (fields : List FlatField) (bytes : List ℕ) (vs : List Value) (k : ℕ) (rest : List ℕ) → fields_from (typed_fields fields) [] 1000000 bytes ≡ Ok ((vs, k), rest) → FitFields (typed_fields fields) vs
 fit_of fields bytes vs k rest e =
     let fits = fits_by (record_of [] (typed_fields fields)) bytes (Record vs) k rest (ap (made Record) e) in
     subst (FitFields (typed_fields fields)) (sym (same_record vs fits.0 fits.1)) fits.2

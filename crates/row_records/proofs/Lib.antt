@@ -4,3 +4,4 @@ pub mod RecordLemmas
 pub mod ContentLemmas
 pub mod PlaceLemmas
 pub mod LawLemmas
+pub mod LengthLemmas

@@ -1,15 +1,17 @@
 // Rows of a content whose keys and bodies are lent.
-ghost use Rattle.std.specs.Prelude.{◌≡◌, map, true, IfOk};
+ghost use Rattle.std.specs.Prelude.{◌≡◌, ◌≢◌, map, true, Ok, MatchOption};
 ghost use Rattle.payload_merge.specs.Contents.{DataPlace, data_writes};
 ghost use Rattle.payload_merge.specs.RowCodec.{AnswersLent};
 ghost use Rattle.payload_merge.specs.RowRefs.{row_in, write_in};
-ghost use Rattle.row_values.specs.Cells.{AreCells, cells_view};
+ghost use Rattle.avro_schema.specs.Written.{written};
+ghost use Rattle.row_values.specs.Cells.{AreCells, cells_view, record_of_cells};
 ghost use Rattle.block_contents.specs.Contents.{content_at, items_at};
 ghost use Rattle.block_contents.specs.Readers.{Reads};
-ghost use Rattle.row_records.specs.Records.{CanBeLent, record_at, record_fields, record_in, rows_in};
+ghost use Rattle.row_records.specs.Records.{CanBeLent, cells_at, record_at, record_fields, record_in, rows_in};
 ghost use Rattle.row_records.specs.Readers.{WritesRecord, place_of, put_at, row_behind_length};
 
 use crate::head::{RowHead, split_cells};
+use crate::lengths::fields_length;
 use crate::place::Place;
 use crate::reading::found_in;
 use crate::record_layout::RecordLayout;
@@ -18,24 +20,24 @@ use byte_fields::{FieldError, u32_prefixed_at};
 use byteorder::BigEndian;
 use hudi_base::{InstantTime, Name};
 use payload_merge::{RowError, RowRef, WriteRef};
-use row_values::{CellRef, put_fields};
-use std::alloc::{AllocError, Global};
+use row_values::CellRef;
+use std::alloc::Global;
 
-// The written form of a record with these cells, and where the row's own begin.
-fn written_of(
-    alloc: Global,
-    records: &RecordLayout,
-    cells: &[CellRef<'_>],
-) -> Result<(Vec<u8>, usize), AllocError>
-    requires { AreCells (record_fields records.now.own.fields) (cells_view cells.now) }
-    ensures { IfOk result (λ x. WritesRecord records.now.own (cells_view cells.now) x.0.items x.1) }
+// Where the row's own cells begin in a record with these cells, if it is in its written form: no number takes more bytes than
+// it needs, so the record is no longer than that form.
+fn own_start(records: &RecordLayout, cells: &[CellRef<'_>], bytes: &[u8]) -> Option<usize>
+    requires fit { AreCells (record_fields records.now.own.fields) (cells_view cells.now) }
+    requires read { cells_at (record_fields records.now.own.fields) bytes.now ≡ Ok (cells_view cells.now) }
+    ensures { MatchOption result
+        (bytes.now ≢ written (record_of_cells (record_fields records.now.own.fields) (cells_view cells.now)))
+        (λ start. WritesRecord records.now.own (cells_view cells.now) bytes.now start) }
 {
     let (texts, own) = split_cells(cells);
-    let mut out = Vec::new(alloc);
-    put_fields(&mut out, records.text_fields(), texts)?;
-    let start = out.len();
-    put_fields(&mut out, records.own.fields.as_slice(), own)?;
-    Ok((out, start))
+    let start = fields_length(records.text_fields(), texts);
+    if start + fields_length(records.own.fields.as_slice(), own) != bytes.len() {
+        return None;
+    }
+    Some(start)
 }
 
 // The row of an instant of which this is told, with this body.
@@ -67,10 +69,9 @@ fn row_in<'a>(
     ensures { Reads (row_in place.now.partition.now) result (record_in true records.now.own (place_of place.now) bytes.now) }
 {
     let found = found_in(alloc, records, place, bytes)?;
-    let (whole, start) = written_of(alloc, records, &found.cells)?;
-    if whole.as_slice() != bytes {
+    let Some(start) = own_start(records, &found.cells, bytes) else {
         return Err(ReadError::Field(FieldError::bad(bytes)));
-    }
+    };
     let (_, body) = bytes.split_at(start);
     Ok(row_ref(place.t, found.head, body))
 }

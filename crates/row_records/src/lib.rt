@@ -10,6 +10,7 @@ mod cells;
 mod head;
 mod laws;
 mod lending;
+mod lengths;
 mod own_row;
 mod place;
 mod reading;

@@ -1,7 +1,4 @@
-use Rattle.std.proofs.Common.{◌≡◌, List, drop, Result, Ok, sym, ap, subst, ◌∙◌}
-use Rattle.std.proofs.lemmas.Bool.{not-false}
-use Rattle.std.proofs.lemmas.Slice.Eq.{bytes_eq-Decides}
-use Rattle.std.specs.Str.{bytes_eq}
+use Rattle.std.proofs.Common.{List, Result, Ok, refl, ap, subst, ◌∙◌}
 use Rattle.byte_fields.specs.declared.field_error.FieldError.{FieldError}
 use Rattle.payload_merge.specs.declared.row.Row.{Row}
 use Rattle.row_values.specs.declared.cell_ref.CellRef.{CellRef}
@@ -17,10 +14,9 @@ returns c =
     let bytes = c.args.bytes.now in
     let found = c.in_ok-found.ensures in
     let cells = cells_view c.in_ok-found.found.cells.items in
-    let w = subst (λ (lent : List CellRef). WritesRecord layout (cells_view lent) c.in_ok-whole.whole.items c.in_ok-whole.start) c.deref.ensures.value c.in_ok-whole.ensures in
-    let equal = (bytes_eq-Decides c.as_slice.result.now bytes).0 (not-false (bytes_eq c.as_slice.result.now bytes) (sym c.if-ne.ensures)) in
-    let same : bytes ≡ c.in_ok-whole.whole.items = sym equal ∙ c.as_slice.ensures.value in
-    let body = c.row_ref.ensures.body ∙ c.split_at.ensures.back ∙ ap (drop c.in_ok-whole.start) same ∙ w.body in
-    lent_row layout (place_of place) bytes c.in_ok-whole.whole.items cells (head_row layout place.t place.partition.now cells c.in_ok-found.found.head) found.cells found.row w.whole same
+    let told = rw c.in-Some.is at c.own_start.ensures in
+    let w = subst (λ (lent : List CellRef). WritesRecord layout (cells_view lent) bytes c.in-Some.start) c.deref.ensures.value told in
+    let body = c.row_ref.ensures.body ∙ c.split_at.ensures.back ∙ w.body in
+    lent_row layout (place_of place) bytes bytes cells (head_row layout place.t place.partition.now cells c.in_ok-found.found.head) found.cells found.row w.whole refl
     ∙ ap (λ (row : Row). let r : Result Row FieldError = Ok row in r)
     (same_row layout place.t place.partition.now cells c.in_ok-found.found.head c.row_ref.result c.row_ref.ensures.key c.row_ref.ensures.rank c.row_ref.ensures.commit c.row_ref.ensures.seq body)
