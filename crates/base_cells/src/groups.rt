@@ -1,8 +1,10 @@
 // The rows of row groups.
-ghost use Rattle.std.specs.Prelude.{◌≡◌, true};
+ghost use Rattle.std.specs.Prelude.{◌≡◌, true, length, IfOk};
+ghost use Rattle.std.specs.List.{AllByRecursion};
 ghost use Rattle.base_cells.specs.Columns.{is_group_of, rows_of};
 ghost use Rattle.base_cells.specs.Cells.{chunks_at, group_at};
 ghost use Rattle.base_cells.specs.Binding.{behind};
+ghost use Rattle.base_cells.specs.Turned.{turned};
 ghost use Rattle.base_cells.specs.Answers.{Answers};
 
 use crate::base_error::BaseError;
@@ -43,18 +45,19 @@ fn rows_of(group: &RowGroup) -> usize
     usize::try_from(group.num_rows).unwrap_or(0)
 }
 
-/// The rows of a row group, each with its cells. The group is one of a file of the columns.
+/// The cells of each column of a row group, and how many rows it has. The group is one of a file of the columns.
 ///
 /// It refuses the bytes for the first column whose chunk is compressed, begins outside the file, or has a page that can't
 /// be read; its pages are read in one pass.
-pub fn read_group(
+pub fn read_columns(
     alloc: Global,
     columns: &Columns,
     bytes: &[u8],
     group: &RowGroup,
-) -> Result<Sequence<Values>, BaseError>
+) -> Result<(Vec<Values>, usize), BaseError>
     requires { is_group_of columns.now group.now ≡ true }
-    ensures { Answers (λ rows. rows) result (group_at columns.now bytes.now group.now) }
+    ensures rows { Answers (λ x. turned x.1 x.0.items) result (group_at columns.now bytes.now group.now) }
+    ensures long { IfOk result (λ x. AllByRecursion (λ cells. length cells ≡ x.1) x.0.items) }
 {
     let mut cells = Vec::new(alloc);
     push_chunks(
@@ -64,6 +67,20 @@ pub fn read_group(
         group.columns.as_slice(),
         &mut cells,
     )?;
-    let rows = turned(alloc, rows_of(group), cells)?;
+    Ok((cells, rows_of(group)))
+}
+
+/// The rows of a row group, each with its cells, as `read_columns` reads them.
+pub fn read_group(
+    alloc: Global,
+    columns: &Columns,
+    bytes: &[u8],
+    group: &RowGroup,
+) -> Result<Sequence<Values>, BaseError>
+    requires { is_group_of columns.now group.now ≡ true }
+    ensures { Answers (λ rows. rows) result (group_at columns.now bytes.now group.now) }
+{
+    let (cells, count) = read_columns(alloc, columns, bytes, group)?;
+    let rows = turned(alloc, count, cells)?;
     Ok(Sequence::from_vec(rows))
 }

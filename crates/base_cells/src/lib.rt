@@ -16,5 +16,5 @@ mod turning;
 
 pub use base_error::{BaseCause, BaseError};
 pub use columns::read_footer;
-pub use groups::read_group;
-pub use turning::turned;
+pub use groups::{read_columns, read_group};
+pub use turning::last_cells;

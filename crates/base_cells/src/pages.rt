@@ -1,5 +1,5 @@
 // The pages of a chunk.
-ghost use Rattle.std.specs.Prelude.{◌≡◌, ◌≤◌, ◌<◌, ◌+◌, ℕ, suc, length, drop, IfOk, IfErr, IfSome};
+ghost use Rattle.std.specs.Prelude.{◌≡◌, ◌≤◌, ◌<◌, ◌+◌, ◌++◌, ℕ, suc, length, drop, IfOk, IfErr, IfSome};
 ghost use Rattle.byte_fields.specs.Prefixed.{nonnegative};
 ghost use Rattle.parquet_pages.specs.Pages.{page_at, strange_encoding};
 ghost use Rattle.base_cells.specs.Cells.{page_or, pages_at, cause_of_many};
@@ -11,7 +11,7 @@ use hudi_base::{Column, Values};
 use parquet_meta::{MetaError, PageHeader, read_page_header};
 use parquet_pages::{PageError, read_page, strange_encoding};
 use sqlite_items::Items;
-use std::alloc::Global;
+use std::alloc::{AllocError, Global};
 
 // Why a page is refused whose header says that it has too many cells.
 fn cause_of_many(column: &Column, header: &PageHeader) -> BaseCause
@@ -86,6 +86,18 @@ fn page_or(
     }
 }
 
+// Cells behind others. Where there are none before them, none is moved.
+fn joined(front: Values, back: Values) -> Result<Values, AllocError>
+    ensures { IfOk result (λ cells. cells ≡ front ++ back) }
+{
+    if front.is_empty() {
+        return Ok(back);
+    }
+    let mut cells = front;
+    cells.append(back)?;
+    Ok(cells)
+}
+
 /// So many cells in pages that follow each other from a place on.
 pub(crate) fn pages_at(
     alloc: Global,
@@ -105,7 +117,7 @@ pub(crate) fn pages_at(
         let (page, len) = page_or(alloc, column, bytes, at, left)?;
         at += len;
         left -= page.len();
-        cells.append(page)?;
+        cells = joined(cells, page)?;
     }
     Ok(cells)
 }

@@ -20,13 +20,13 @@ fn move_last(last: usize, list: &mut Values, cells: &mut Vec<Value>) -> Result<(
     Ok(())
 }
 
-// The last cell of each list, which it takes away. Each has `last` before it.
-fn last_cells(alloc: Global, last: usize, lists: &mut Vec<Values>) -> Result<Values, AllocError>
+/// The last cell of each list, which it takes away. Each has `last` before it. The only error is want of memory.
+pub fn last_cells(alloc: Global, last: usize, lists: &mut Vec<Values>) -> Result<Values, AllocError>
     requires { AllByRecursion (λ cells. length cells ≡ suc last) lists.old.items }
     ensures cells { IfOk result (λ cells. cells ≡ cells_at lists.old.items last) }
     ensures left { OnOk result (lists.new.items ≡ map (take last) lists.old.items) }
 {
-    let mut cells = Vec::new(alloc);
+    let mut cells = Vec::with_capacity(alloc, lists.len())?;
     for list in lists.iter_mut() {
         move_last(last, list, &mut cells)?;
     }
@@ -34,7 +34,7 @@ fn last_cells(alloc: Global, last: usize, lists: &mut Vec<Values>) -> Result<Val
 }
 
 /// Rows of columns that have n cells each, or columns of rows that have n cells each. The only error is want of memory.
-pub fn turned(alloc: Global, n: usize, lists: Vec<Values>) -> Result<Vec<Values>, AllocError>
+pub(crate) fn turned(alloc: Global, n: usize, lists: Vec<Values>) -> Result<Vec<Values>, AllocError>
     requires { AllByRecursion (λ cells. length cells ≡ n) lists.items }
     ensures { IfOk result (λ turned_lists. turned_lists.items ≡ turned n lists.items) }
 {

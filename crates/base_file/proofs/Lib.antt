@@ -2,3 +2,4 @@ pub mod KeyLemmas
 pub mod OrderLemmas
 pub mod RowLemmas
 pub mod WriteLemmas
+pub mod LastRowLemmas

@@ -18,32 +18,6 @@ rows_behind_twice : (a b : List Row) (found : Option (List Row)) → rows_behind
 rows_behind_twice a b (Some rows) = ap (λ (xs : List Row). Some xs) (sym (append_assoc a b rows))
 rows_behind_twice a b None = refl
 
--- ---- one row after another
-
-next_row : (reading : CellsReading) (partition : List ℕ) (i : ℕ) (cells : List (List Value)) (one : List Value) → i < length cells → one ≡ get_or cells i one
-    → rows_of_cells reading partition (drop i cells) ≡ option_and_then (λ row. rows_behind (row ∷ []) (rows_of_cells reading partition (drop (i + 1) cells))) (result_ok (reading partition one))
-unfolding rows_of_cells
-next_row reading partition i cells one lt is = ap (rows_of_cells reading partition) (drop_more cells i one lt ∙ ap (λ (x : List Value). x ∷ drop (i + 1) cells) (sym is))
-
-pub row_next : (reading : CellsReading) (partition : List ℕ) (i : ℕ) (cells : List (List Value)) (one : List Value) (row : Row) (rows longer : List Row) (whole : Option (List Row)) → i < length cells → one ≡ get_or cells i one
-    → Some row ≡ result_ok (reading partition one) → longer ≡ rows ++ row ∷ [] → whole ≡ rows_behind rows (rows_of_cells reading partition (drop i cells)) → whole ≡ rows_behind longer (rows_of_cells reading partition (drop (i + 1) cells))
-row_next reading partition i cells one row rows longer whole lt is read e w =
-    w ∙ ap (rows_behind rows) (next_row reading partition i cells one lt is
-    ∙ ap (option_and_then (λ (row : Row). rows_behind (row ∷ []) (rows_of_cells reading partition (drop (i + 1) cells)))) (sym read))
-    ∙ rows_behind_twice rows (row ∷ []) (rows_of_cells reading partition (drop (i + 1) cells))
-    ∙ ap (λ (xs : List Row). rows_behind xs (rows_of_cells reading partition (drop (i + 1) cells))) (sym e)
-
-pub row_none : (reading : CellsReading) (partition : List ℕ) (i : ℕ) (cells : List (List Value)) (one : List Value) (rows : List Row) (whole : Option (List Row)) → i < length cells → one ≡ get_or cells i one
-    → None ≡ result_ok (reading partition one) → whole ≡ rows_behind rows (rows_of_cells reading partition (drop i cells)) → None ≡ whole
-row_none reading partition i cells one rows whole lt is read w =
-    sym (w ∙ ap (rows_behind rows) (next_row reading partition i cells one lt is
-    ∙ ap (option_and_then (λ (row : Row). rows_behind (row ∷ []) (rows_of_cells reading partition (drop (i + 1) cells)))) (sym read)))
-
-pub rows_end : (reading : CellsReading) (partition : List ℕ) (i : ℕ) (cells : List (List Value)) (rows : List Row) (whole : Option (List Row)) → length cells ≤ i → whole ≡ rows_behind rows (rows_of_cells reading partition (drop i cells)) → Some rows ≡ whole
-unfolding rows_of_cells
-rows_end reading partition i cells rows whole le w =
-    sym (w ∙ ap (λ (xs : List (List Value)). rows_behind rows (rows_of_cells reading partition xs)) (drop_all i cells le) ∙ ap (λ (xs : List Row). Some xs) (append-nil rows))
-
 -- ---- one row group after another
 
 rows_of_both : (reading : CellsReading) (partition : List ℕ) (a b : List (List Value)) → rows_of_cells reading partition (a ++ b) ≡ option_and_then (λ rows. rows_behind rows (rows_of_cells reading partition b)) (rows_of_cells reading partition a)

@@ -14,12 +14,14 @@ use Rattle.parquet_meta.specs.Written.{file_meta_bytes}
 use Rattle.payload_merge.specs.declared.row.Row.{Row}
 use Rattle.base_cells.specs.Ends.{magic}
 use Rattle.base_cells.specs.Written.{group_len, grouped, groups_in, group_pages, groups_pages, group_of, groups_of, meta_of, file_bytes}
+use Rattle.parquet_pages.specs.Parts.{Parts}
 use Rattle.base_writer.specs.Fitting.{AreGroupOf, HasForm, end_bytes, meta_with}
-use Rattle.base_file.specs.WrittenRows.{Meaning, StandsFor, IsFileOf, IsPut, IsBegun, AreFull}
+use Rattle.base_writer.specs.GroupParts.{group_parts, ArePagesOf}
+use Rattle.base_file.specs.WrittenRows.{Meaning, StandsFor, AreAdded, IsFileOf, IsPut, IsBegun, AreFull}
 
 -- ---- rows of cells beside rows
 
-zip_long : {A B : Type 0} (R : A → B → Type 0) (xs : List A) (ys : List B) → AllZip R xs ys → length xs ≡ length ys
+pub zip_long : {A B : Type 0} (R : A → B → Type 0) (xs : List A) (ys : List B) → AllZip R xs ys → length xs ≡ length ys
 zip_long R [] [] all = refl
 zip_long R [] (y ∷ ys) all = absurd all
 zip_long R (x ∷ xs) [] all = absurd all
@@ -38,6 +40,24 @@ zip_more m i rows row cells table longer lt is stands e all =
     let both = zip_both (StandsFor m) table (cells ∷ []) (take i rows) (row ∷ []) all (stands, tt) in
     let next : take i rows ++ row ∷ [] ≡ take (i + 1) rows = ap (λ (x : Row). take i rows ++ x ∷ []) is ∙ sym (take_more rows i row lt) in
     subst (λ (xs : List (List Value)). AllZip (StandsFor m) xs (take (i + 1) rows)) (sym e) (subst (λ (xs : List Row). AllZip (StandsFor m) (table ++ cells ∷ []) xs) next both)
+
+pub added_more : (m : Meaning) (columns : List Column) (i : ℕ) (rows : List Row) (row : Row) (cells : List Value) (old new : List Parts) → columns ≡ m.columns → i < length rows → row ≡ get_or rows i row → StandsFor m cells row → AreAdded m (take i rows) old
+    → ((table : List (List Value)) → old ≡ group_parts columns table → new ≡ group_parts columns (table ++ cells ∷ [])) → AreAdded m (take (i + 1) rows) new
+added_more m columns i rows row cells old new e lt is stands added more =
+    let longer = added.table ++ cells ∷ [] in record {
+      table = longer;
+      stand = zip_more m i rows row cells added.table longer lt is stands refl added.stand;
+      are = more added.table (added.are ∙ ap (λ (cs : List Column). group_parts cs added.table) (sym e)) ∙ ap (λ (cs : List Column). group_parts cs longer) e;
+    }
+
+pub added_all : (m : Meaning) (i : ℕ) (rows : List Row) (parts : List Parts) → length rows ≤ i → AreAdded m (take i rows) parts → AreAdded m rows parts
+added_all m i rows parts past added = subst (λ (xs : List Row). AreAdded m xs parts) (take_all i rows past) added
+
+pub pages_of_added : (m : Meaning) (columns : List Column) (rows : List Row) (count : ℕ) (parts : List Parts) → columns ≡ m.columns → count ≡ length rows → (added : AreAdded m rows parts) → ArePagesOf columns added.table count parts
+pages_of_added m columns rows count parts e n added = record {
+  are = added.are ∙ ap (λ (cs : List Column). group_parts cs added.table) (sym e);
+  counted = n ∙ sym (zip_long (StandsFor m) added.table rows added.stand);
+}
 
 each_of : (m : Meaning) (table : List (List Value)) (rows : List Row) → AllZip (StandsFor m) table rows → AllByRecursion (AreCellsOf m.columns) table
 each_of m [] [] all = tt

@@ -10,7 +10,9 @@ use Rattle.payload_merge.specs.declared.row.Row.{Row}
 use Rattle.payload_merge.specs.Contents.{CellsReading}
 use Rattle.base_cells.specs.Ends.{magic}
 use Rattle.base_cells.specs.Written.{group_len, group_pages, groups_pages, group_of, groups_of, groups_in, meta_of, file_bytes}
+use Rattle.parquet_pages.specs.Parts.{Parts}
 use Rattle.base_writer.specs.Fitting.{HasForm}
+use Rattle.base_writer.specs.GroupParts.{group_parts}
 
 -- what cells mean to a codec, and which column has the file id, in a file of this id
 pub record Meaning : Type 0 where
@@ -36,6 +38,12 @@ pub record IsFileOf (m : Meaning) (rows : List Row) (bytes : List ℕ) : Type 0 
   pub form : HasForm (meta_of m.columns table)
 
 -- ---- for private clauses
+
+-- cells that stand for these rows were added to a row group
+pub record AreAdded (m : Meaning) (rows : List Row) (parts : List Parts) : Type 0 where
+  pub table : List (List Value)
+  pub stand : AllZip (StandsFor m) table rows
+  pub are : parts ≡ group_parts m.columns table
 
 -- a row group of these rows was added
 pub record IsPut (m : Meaning) (rows : List Row) (old new : List ℕ) (groups more : List RowGroup) : Type 0 where

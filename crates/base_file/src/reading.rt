@@ -1,15 +1,16 @@
 // Base files read.
-ghost use Rattle.std.specs.Prelude.{◌≡◌, [], true, IfOk};
+ghost use Rattle.std.specs.Prelude.{◌≡◌, [], true, length, IfOk};
 ghost use Rattle.std.specs.Result.{result_ok};
-ghost use Rattle.std.specs.List.{list_all};
+ghost use Rattle.std.specs.List.{list_all, AllByRecursion};
 ghost use Rattle.std.specs.Option.{option_map};
 ghost use Rattle.base_cells.specs.Columns.{is_group_of};
+ghost use Rattle.base_cells.specs.Turned.{turned};
 ghost use Rattle.base_cells.specs.Answers.{Answers};
-ghost use Rattle.base_file.specs.BaseFiles.{rows_behind, rows_of_cells, rows_or, base_at};
+ghost use Rattle.base_file.specs.BaseFiles.{rows_of_cells, rows_or, base_at};
 ghost use Rattle.base_file.specs.Loops.{then_rows, rows_of_groups};
 
 use crate::key_set::keys_differ;
-use base_cells::{BaseCause, BaseError, read_footer, read_group};
+use base_cells::{BaseCause, BaseError, last_cells, read_columns, read_footer};
 use hudi_base::{Name, Values};
 use parquet_meta::RowGroup;
 use payload_merge::{Row, RowCodec, RowError, Rows};
@@ -31,42 +32,55 @@ fn row_of<K: RowCodec>(
     }
 }
 
-// Adds the rows for which rows of cells stand, if each of these stands for one.
-fn with_rows<K: RowCodec>(
+// The rows for which the rows of columns of cells stand, if each of these stands for one. They are taken from the last one on,
+// so that each goes as soon as its row is there.
+fn rows_of_columns<K: RowCodec>(
     alloc: Global,
     codec: &K,
     partition: &Name,
-    cells: &[Values],
-    before: Vec<Row>,
+    columns: Vec<Values>,
+    count: usize,
 ) -> Result<Option<Vec<Row>>, AllocError>
+    requires { AllByRecursion (λ cells. length cells ≡ count) columns.items }
     ensures { IfOk result (λ rows. option_map (λ rows. rows.items) rows
-        ≡ rows_behind before.items (rows_of_cells (K.base_row codec.now) partition.now cells.now)) }
+        ≡ rows_of_cells (K.base_row codec.now) partition.now (turned count columns.items)) }
 {
-    let mut rows = before;
-    for row_cells in cells {
-        match row_of(alloc, codec, partition, row_cells)? {
-            Some(row) => rows.push(row)?,
+    let mut columns = columns;
+    let mut backwards = Vec::new(alloc);
+    let mut left = count;
+    while left > 0 {
+        left -= 1;
+        let cells = last_cells(alloc, left, &mut columns)?;
+        match row_of(alloc, codec, partition, &cells)? {
+            Some(row) => backwards.push(row)?,
             None => return Ok(None),
         }
     }
-    Ok(Some(rows))
+    backwards.reverse();
+    Ok(Some(backwards))
 }
 
-// The same of rows that may not be there, because cells before stood for none.
+// Rows that may not be there, because cells before stood for none, and behind them those of columns of cells.
 fn then_rows<K: RowCodec>(
     alloc: Global,
     codec: &K,
     partition: &Name,
-    cells: &[Values],
+    columns: Vec<Values>,
+    count: usize,
     before: Option<Vec<Row>>,
 ) -> Result<Option<Vec<Row>>, AllocError>
+    requires { AllByRecursion (λ cells. length cells ≡ count) columns.items }
     ensures { IfOk result (λ rows. option_map (λ rows. rows.items) rows
-        ≡ then_rows (K.base_row codec.now) partition.now (option_map (λ rows. rows.items) before) cells.now) }
+        ≡ then_rows (K.base_row codec.now) partition.now (option_map (λ rows. rows.items) before) (turned count columns.items)) }
 {
-    match before {
-        Some(rows) => with_rows(alloc, codec, partition, cells, rows),
-        None => Ok(None),
-    }
+    let Some(mut rows) = before else {
+        return Ok(None);
+    };
+    let Some(mut more) = rows_of_columns(alloc, codec, partition, columns, count)? else {
+        return Ok(None);
+    };
+    rows.append(&mut more)?;
+    Ok(Some(rows))
 }
 
 // The rows of row groups. All pages are read, also behind cells that stand for no row.
@@ -84,8 +98,8 @@ fn rows_of_groups<K: RowCodec>(
     let columns = codec.columns();
     let mut rows = Some(Vec::new(alloc));
     for group in groups {
-        let cells = read_group(alloc, columns, bytes, group)?;
-        rows = then_rows(alloc, codec, partition, cells.as_slice(), rows)?;
+        let (cells, count) = read_columns(alloc, columns, bytes, group)?;
+        rows = then_rows(alloc, codec, partition, cells, count, rows)?;
     }
     Ok(rows)
 }

@@ -1,11 +1,11 @@
 // Base files written.
-ghost use Rattle.std.specs.Prelude.{◌≡◌, ◌≤◌, length, All, IfOk, IfErr, OnOk};
-ghost use Rattle.std.specs.List.{AllZip};
+ghost use Rattle.std.specs.Prelude.{◌≡◌, ◌≤◌, [], length, All, IfOk, IfErr, OnOk};
 ghost use Rattle.base_cells.specs.Written.{group_len};
-ghost use Rattle.base_file.specs.WrittenRows.{meaning, StandsFor, IsFileOf, IsPut};
+ghost use Rattle.base_file.specs.WrittenRows.{meaning, AreAdded, StandsFor, IsFileOf, IsPut};
+ghost use Rattle.base_writer.specs.GroupParts.{group_parts};
 
 use base_cells::BaseError;
-use base_writer::{begin, finish, put_group};
+use base_writer::{GroupPages, begin, finish};
 use hudi_base::{Bytes, Name, Values};
 use parquet_meta::{RowGroup, RowGroups};
 use payload_merge::{Row, RowCodec};
@@ -32,24 +32,25 @@ fn cells_of<K: RowCodec>(
     }
 }
 
-// Rows of cells that stand for rows.
-fn table_of<K: RowCodec>(
+// Adds rows to a row group that has none.
+fn add_rows<K: RowCodec>(
     alloc: Global,
     codec: &K,
     file: &Name,
     rows: &[Row],
-) -> Result<Vec<Values>, AllocError>
+    group: &mut GroupPages,
+) -> Result<(), AllocError>
     requires own { All (K.own_row codec.now) rows.now }
     requires short_id { length file.now ≤ 65536 }
-    ensures { IfOk result (λ table. AllZip (StandsFor
-        (meaning (K.columns codec.now) (K.base_row codec.now) (K.file_column codec.now) file.now)) table.items rows.now) }
+    requires empty { group.old ≡ group_parts (K.columns codec.now) [] }
+    ensures { OnOk result (AreAdded
+        (meaning (K.columns codec.now) (K.base_row codec.now) (K.file_column codec.now) file.now) rows.now group.new) }
 {
-    let mut table = Vec::new(alloc);
     for row in rows {
         let cells = cells_of(alloc, codec, file, row)?;
-        table.push(cells)?;
+        group.add(codec.columns(), &cells)?;
     }
-    Ok(table)
+    Ok(())
 }
 
 // Adds a row group.
@@ -67,8 +68,9 @@ fn put_rows<K: RowCodec>(
     ensures { OnOk result (IsPut
         (meaning (K.columns codec.now) (K.base_row codec.now) (K.file_column codec.now) file.now) rows.now bytes.old.items bytes.new.items groups.old.items groups.new.items) }
 {
-    let table = table_of(alloc, codec, file, rows)?;
-    let group = put_group(alloc, codec.columns(), table, bytes)?;
+    let mut pages = GroupPages::new(alloc, codec.columns())?;
+    add_rows(alloc, codec, file, rows, &mut pages)?;
+    let group = pages.put(alloc, codec.columns(), rows.len(), bytes)?;
     groups.push(group)?;
     Ok(())
 }

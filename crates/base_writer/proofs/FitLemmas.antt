@@ -1,11 +1,10 @@
 -- The cells of a row group fit pages.
-use Rattle.std.proofs.Common.{◌≡◌, ℕ, zero, suc, ◌+◌, ◌*◌, ◌-◌, ◌<◌, ◌≤◌, ◌^◌, Bool, true, false, List, [], ◌∷◌, ◌++◌, length, drop, map, get_or, refl, sym, ap, subst, ◌∙◌, arith}
+use Rattle.std.proofs.Common.{◌≡◌, ℕ, zero, suc, ◌+◌, ◌*◌, ◌-◌, ◌<◌, ◌≤◌, Bool, true, List, [], ◌∷◌, length, drop, map, get_or, refl, sym, ap, subst, ◌∙◌, arith}
 use Rattle.std.specs.Prelude.{◌&&◌}
 use Rattle.std.specs.Int.{w32, w64, cast_unsigned}
 use Rattle.std.specs.List.{AllByRecursion, list_all, flat_map, range_with_len}
 use Rattle.std.proofs.lemmas.Bool.{leb-true}
 use Rattle.std.proofs.lemmas.List.{length-append, length-map, length-drop, get_or-drop, drop-drop}
-use Rattle.std.proofs.lemmas.List.FromFn.{length-range_with_len}
 use Rattle.byteorder.specs.Endian.{little_bytes}
 use Rattle.byte_fields.specs.Prefixed.{with_length}
 use Rattle.byte_fields.proofs.NumberLemmas.{little4, little8}
@@ -42,7 +41,7 @@ each_is : (columns : List Column) (rows : List (List Value)) (i : ℕ) (d : Colu
 each_is columns [] i d lt are = refl
 each_is columns (cells ∷ rows) i d lt are = ap (λ (b : Bool). b && list_all (is_cell (get_or columns i d)) (cells_at rows i)) (column_of columns cells i d lt are.0).0 ∙ each_is columns rows i d lt are.1
 
-value_le : (cell : Value) → is_short cell ≡ true → length (value_bytes cell) ≤ 65540
+pub value_le : (cell : Value) → is_short cell ≡ true → length (value_bytes cell) ≤ 65540
 unfolding with_length
 value_le (value.Int n) short = omega (arith, little4.length_bytes (cast_unsigned w32 n))
 value_le (value.Long n) short = omega (arith, little8.length_bytes (cast_unsigned w64 n))
@@ -81,12 +80,3 @@ columns_from columns rows i (column ∷ rest) e are =
 pub columns_fit : (columns : List Column) (rows : List (List Value)) → AreGroupOf columns rows → FitColumns columns (turned (length columns) rows)
 unfolding turned
 columns_fit columns rows are = columns_from columns rows 0 columns refl are
-
--- the same, where the columns and the rows were handed on
-pub group_fits : (columns cs : List Column) (rows lists : List (List Value)) (n : ℕ) → cs ≡ columns → n ≡ length columns → lists ≡ turned n rows → AreGroupOf columns rows → FitColumns cs lists
-group_fits columns cs rows lists n e f g are =
-    let fit : FitColumns columns (turned n rows) = subst (λ (k : ℕ). FitColumns columns (turned k rows)) (sym f) (columns_fit columns rows are) in
-    subst (λ (xs : List Column). FitColumns xs lists) (sym e) (subst (λ (xs : List (List Value)). FitColumns columns xs) (sym g) fit)
-
-pub group_long : (columns : List Column) (rows : List (List Value)) (n : ℕ) → n ≡ length columns → AreGroupOf columns rows → AllByRecursion (λ cells. length cells ≡ n) rows
-group_long columns rows n e are = subst (λ (k : ℕ). AllByRecursion (λ (cells : List Value). length cells ≡ k) rows) (sym e) (rows_long columns rows are.each)

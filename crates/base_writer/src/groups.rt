@@ -1,14 +1,17 @@
 // Files of cells written, a row group at a time.
-ghost use Rattle.std.specs.Prelude.{◌≡◌, ◌++◌, ◌∷◌, [], pos, length, IfOk, OnOk};
-ghost use Rattle.base_cells.specs.Written.{pages_of, group_pages, chunk_with, chunk_of, chunks_of, group_of};
-ghost use Rattle.base_writer.specs.Fitting.{AreGroupOf, FitColumns};
-ghost use Rattle.parquet_pages.specs.Pages.{FitsPage, page_bytes};
+ghost use Rattle.std.specs.Prelude.{◌≡◌, ◌<◌, ◌^◌, ◌++◌, ◌∷◌, [], pos, List, length, IfOk, OnOk};
+ghost use Rattle.hudi_base.specs.declared.value.Value.{Value as Cell};
+ghost use Rattle.column_cells.specs.Cells.{AreCellsOf};
+ghost use Rattle.parquet_pages.specs.Parts.{parts_body, parts_page};
+ghost use Rattle.base_cells.specs.Written.{group_pages, chunk_with, group_of};
+ghost use Rattle.base_writer.specs.Fitting.{AreGroupOf};
+ghost use Rattle.base_writer.specs.GroupParts.{group_parts, ArePagesOf, FitParts, parts_with, parts_pages, parts_chunks};
 
-use base_cells::turned;
-use hudi_base::{Bytes, Column, Columns, Sequence, Values};
+use hudi_base::{Bytes, Column, Columns, Sequence, Value, Values};
 use parquet_meta::{Chunk, Chunks, RowGroup};
-use parquet_pages::write_page;
+use parquet_pages::{PageCells, put_page};
 use std::alloc::{AllocError, Global};
+use std::marker::Model;
 
 /// The encoding of values.
 const PLAIN: i32 = 0;
@@ -46,17 +49,6 @@ fn path_of(alloc: Global, column: &Column) -> Result<Sequence<Bytes>, AllocError
     Ok(path)
 }
 
-// The bytes of a column's one page in a row group.
-fn page_of(alloc: Global, column: &Column, cells: &Values) -> Result<Bytes, AllocError>
-    requires { FitsPage column.now cells.now }
-    ensures { IfOk result (λ page. page ≡ page_bytes column.now cells.now) }
-{
-    match write_page(alloc, column, cells) {
-        Ok(page) => Ok(page),
-        Err(_) => Err(AllocError),
-    }
-}
-
 // What the footer says of a chunk whose one page begins at this place and has so many cells and bytes.
 fn chunk_of(
     alloc: Global,
@@ -82,76 +74,145 @@ fn chunk_of(
     })
 }
 
-// Adds a column's page and its chunk.
+// Adds a column's page of so many cells and its chunk.
 fn put_chunk(
     alloc: Global,
     column: &Column,
-    cells: &Values,
+    count: usize,
+    page: &PageCells,
     bytes: &mut Vec<u8>,
     chunks: &mut Vec<Chunk>,
 ) -> Result<(), AllocError>
-    requires { FitsPage column.now cells.now }
-    ensures bytes { OnOk result (bytes.new.items ≡ bytes.old.items ++ page_bytes column.now cells.now) }
-    ensures chunks { OnOk result
-        (chunks.new.items ≡ chunks.old.items ++ chunk_of (length bytes.old.items) column.now cells.now ∷ []) }
+    requires size { length (parts_body column.now page.now) < 2 ^ 31 }
+    requires count { count < 2 ^ 31 }
+    ensures bytes { OnOk result (bytes.new.items ≡ bytes.old.items ++ parts_page column.now count page.now) }
+    ensures chunks { OnOk result (chunks.new.items ≡ chunks.old.items
+        ++ chunk_with (length bytes.old.items) column.now count (length (parts_page column.now count page.now)) ∷ []) }
 {
-    let page = page_of(alloc, column, cells)?;
-    let chunk = chunk_of(
-        alloc,
-        bytes.len(),
-        column,
-        cells.len(),
-        page.as_slice().len(),
-    )?;
+    let at = bytes.len();
+    put_page(alloc, column, count, page, bytes)?;
+    let chunk = chunk_of(alloc, at, column, count, bytes.len() - at)?;
     chunks.push(chunk)?;
-    bytes.extend_from_slice(page.as_slice())
+    Ok(())
 }
 
 // Adds each column's page and its chunk.
 fn put_chunks(
     alloc: Global,
     columns: &[Column],
-    lists: &[Values],
+    count: usize,
+    pages: &[PageCells],
     bytes: &mut Vec<u8>,
     chunks: &mut Vec<Chunk>,
 ) -> Result<(), AllocError>
-    requires { FitColumns columns.now lists.now }
-    ensures bytes { OnOk result (bytes.new.items ≡ bytes.old.items ++ pages_of columns.now lists.now) }
-    ensures chunks { OnOk result
-        (chunks.new.items ≡ chunks.old.items ++ chunks_of (length bytes.old.items) columns.now lists.now) }
+    requires size { FitParts columns.now pages.now }
+    requires count { count < 2 ^ 31 }
+    ensures bytes { OnOk result (bytes.new.items ≡ bytes.old.items ++ parts_pages columns.now count pages.now) }
+    ensures chunks { OnOk result (chunks.new.items ≡ chunks.old.items
+        ++ parts_chunks (length bytes.old.items) columns.now count pages.now) }
 {
     match columns {
         [] => Ok(()),
-        [column, columns @ ..] => match lists {
+        [column, columns @ ..] => match pages {
             [] => Ok(()),
-            [cells, lists @ ..] => {
-                put_chunk(alloc, column, cells, bytes, chunks)?;
-                put_chunks(alloc, columns, lists, bytes, chunks)
+            [page, pages @ ..] => {
+                put_chunk(alloc, column, count, page, bytes, chunks)?;
+                put_chunks(alloc, columns, count, pages, bytes, chunks)
             }
         },
     }
 }
 
-/// Adds the pages of a row group to those of a file, and gives what its footer says of it. The only error is want of
-/// memory.
-pub fn put_group(
-    alloc: Global,
-    columns: &Columns,
-    rows: Vec<Values>,
-    bytes: &mut Vec<u8>,
-) -> Result<RowGroup, AllocError>
-    requires { AreGroupOf columns.now rows.items }
-    ensures bytes { OnOk result (bytes.new.items ≡ bytes.old.items ++ group_pages columns.now rows.items) }
-    ensures group { IfOk result (λ group. group ≡ group_of (length bytes.old.items) columns.now rows.items) }
+// What the footer says of a row group of these chunks, of so many bytes and rows.
+fn group_with(chunks: Chunks, size: usize, count: usize) -> Result<RowGroup, AllocError>
+    ensures { IfOk result (λ group. group ≡ record { columns = chunks; total_size = pos size; num_rows = pos count }) }
 {
-    let num_rows = signed(rows.len())?;
-    let before = bytes.len();
-    let lists = turned(alloc, columns.len(), rows)?;
-    let mut chunks = Vec::new(alloc);
-    put_chunks(alloc, columns.as_slice(), &lists, bytes, &mut chunks)?;
     Ok(RowGroup {
-        columns: Chunks::from_vec(chunks),
-        total_size: signed(bytes.len() - before)?,
-        num_rows,
+        columns: chunks,
+        total_size: signed(size)?,
+        num_rows: signed(count)?,
     })
+}
+
+// Adds the cells of a row, each to the page of its column.
+fn add_cells(
+    columns: &[Column],
+    cells: &[Value],
+    pages: &mut Vec<PageCells>,
+) -> Result<(), AllocError>
+    requires { AreCellsOf columns.now cells.now }
+    ensures { OnOk result (pages.new.items ≡ parts_with columns.now cells.now pages.old.items) }
+{
+    for i in 0..columns.len().min(cells.len()).min(pages.len()) {
+        pages[i].add(&columns[i], &cells[i])?;
+    }
+    Ok(())
+}
+
+/// The pages of a row group that is written, one for each column. Rows of cells are added one after another, and each can
+/// be let go at once.
+#[derive(Drop)]
+pub struct GroupPages {
+    pages: Vec<PageCells>,
+}
+
+impl Model for GroupPages {
+    ghost use Rattle.std.specs.Prelude.{List};
+    ghost use Rattle.parquet_pages.specs.Parts.{Parts};
+
+    ghost Value = { List Parts };
+
+    ghost view = { λ group. group.pages.items };
+}
+
+impl GroupPages {
+    /// The pages of no rows of the columns. The only error is want of memory.
+    pub fn new(alloc: Global, columns: &Columns) -> Result<GroupPages, AllocError>
+        ensures { IfOk result (λ group. group ≡ group_parts columns.now []) }
+    {
+        let mut pages = Vec::with_capacity(alloc, columns.len())?;
+        for _page in 0..columns.len() {
+            pages.push(PageCells::new(alloc))?;
+        }
+        Ok(GroupPages { pages })
+    }
+
+    /// Adds the cells of a row to those of others. The only error is want of memory.
+    pub fn add(&mut self, columns: &Columns, cells: &Values) -> Result<(), AllocError>
+        requires { AreCellsOf columns.now cells.now }
+        ensures { (rows : List (List Cell)) → self.old ≡ group_parts columns.now rows →
+            OnOk result (self.new ≡ group_parts columns.now (rows ++ cells.now ∷ [])) }
+    {
+        add_cells(columns.as_slice(), cells.as_slice(), &mut self.pages)?;
+        Ok(())
+    }
+
+    /// Adds the pages of so many rows to those of a file, and gives what its footer says of them. The only error is want of
+    /// memory.
+    pub fn put(
+        &self,
+        alloc: Global,
+        columns: &Columns,
+        count: usize,
+        bytes: &mut Vec<u8>,
+    ) -> Result<RowGroup, AllocError>
+        requires { (rows : List (List Cell)) × ArePagesOf columns.now rows count self.now × AreGroupOf columns.now rows }
+        ensures bytes { (rows : List (List Cell)) → ArePagesOf columns.now rows count self.now →
+            OnOk result (bytes.new.items ≡ bytes.old.items ++ group_pages columns.now rows) }
+        ensures group { (rows : List (List Cell)) → ArePagesOf columns.now rows count self.now →
+            IfOk result (λ group. group ≡ group_of (length bytes.old.items) columns.now rows) }
+    {
+        let before = bytes.len();
+        let mut chunks = Vec::new(alloc);
+        put_chunks(
+            alloc,
+            columns.as_slice(),
+            count,
+            &self.pages,
+            bytes,
+            &mut chunks,
+        )?;
+        let group = group_with(Chunks::from_vec(chunks), bytes.len() - before, count)?;
+        Ok(group)
+    }
 }

@@ -8,4 +8,4 @@ mod ends;
 mod groups;
 
 pub use ends::{begin, finish};
-pub use groups::put_group;
+pub use groups::GroupPages;

@@ -5,8 +5,7 @@ use base_file::{read_base, write_base};
 use hudi_base::{Bytes, InstantTime, Name};
 use payload_merge::Row;
 use plain_rows::{PlainRows, are_own};
-use std::alloc::Global;
-use std::fmt::Write;
+use std::alloc::{AllocError, Global};
 
 // The beginning of the year 2024, in milliseconds since the beginning of 1970.
 const INSTANT: u64 = 1_704_067_200_000;
@@ -14,6 +13,11 @@ const INSTANT: u64 = 1_704_067_200_000;
 const PARTITION: &str = "x";
 
 const FILE: &str = "0000ffff-c50d-5b40-af36-b8949fde563e-0";
+
+// How many digits a key has, behind a letter, and how many a body.
+const KEY_DIGITS: usize = 9;
+
+const BODY_LEN: usize = 16;
 
 /// What a command makes of the input: `write` the file of as many rows as the input says, `read` how many rows a file has
 /// and the sum of their ranks.
@@ -25,20 +29,32 @@ pub fn output_of(alloc: Global, command: &str, input: &[u8]) -> Result<Bytes> {
     }
 }
 
+// So many of the last digits of a number, from the last one on.
+fn last_digits(alloc: Global, count: usize, number: u64) -> Result<Vec<u8>, AllocError> {
+    let mut digits = Vec::with_capacity(alloc, BODY_LEN)?;
+    let mut rest = number;
+    for _digit in 0..count {
+        digits.push(b'0' + (rest % 10) as u8)?;
+        rest /= 10;
+    }
+    Ok(digits)
+}
+
 // The row at this place, by the rule.
 fn row_at(alloc: Global, time: InstantTime, place: u32) -> Result<Row> {
     let number = u64::from(place);
-    let mut body = String::new(alloc);
-    write!(body, "{:016}", number * 2_654_435_761 % 10_000_000_019)?;
-    let mut key = String::new(alloc);
-    write!(key, "k{place:09}")?;
+    let mut body = last_digits(alloc, BODY_LEN, number * 2_654_435_761 % 10_000_000_019)?;
+    body.reverse();
+    let mut key = last_digits(alloc, KEY_DIGITS, number)?;
+    key.push(b'k')?;
+    key.reverse();
     Ok(Row {
         partition: Name::from_text(alloc, PARTITION)?,
-        key: Bytes::from_slice(alloc, key.as_bytes())?,
+        key: Bytes::from_vec(key),
         rank: (number * 7919 % 1000) as i64 - 500,
         commit: time,
         seq: place,
-        body: Bytes::from_slice(alloc, body.as_bytes())?,
+        body: Bytes::from_vec(body),
     })
 }
 

@@ -128,19 +128,6 @@ value_le i [] d lt = absurd (omega arith)
 value_le zero (cell ∷ cells) d lt = omega (arith, length-append (value_bytes cell) (flat_map value_bytes cells))
 value_le (suc i) (cell ∷ cells) d lt = omega (arith, length-append (value_bytes cell) (flat_map value_bytes cells), value_le i cells d (omega arith))
 
-pub values_next : (i : ℕ) (cells : List Value) (cell : Value) (out new whole : List ℕ) → i < length cells → cell ≡ get_or cells i cell → new ≡ out ++ value_bytes cell → out ++ flat_map value_bytes (drop i cells) ≡ whole → new ++ flat_map value_bytes (drop (i + 1) cells) ≡ whole
-values_next i cells cell out new whole lt is put kept =
-    let after : List ℕ = flat_map value_bytes (drop (i + 1) cells) in
-    let rest : drop i cells ≡ cell ∷ drop (i + 1) cells = drop-cons cells i cell lt ∙ ap (λ (k : ℕ). get_or cells i cell ∷ drop k cells) (sym (add-one i)) ∙ ap (λ (v : Value). v ∷ drop (i + 1) cells) (sym is) in
-    ap (λ (t : List ℕ). t ++ after) put
-    ∙ append_assoc out (value_bytes cell) after
-    ∙ ap (λ (t : List Value). out ++ flat_map value_bytes t) (sym rest)
-    ∙ kept
-
-pub values_end : (i : ℕ) (cells : List Value) (out whole : List ℕ) → length cells ≤ i → out ++ flat_map value_bytes (drop i cells) ≡ whole → out ≡ whole
-values_end i cells out whole past kept =
-    sym (append-nil out) ∙ ap (λ (t : List Value). out ++ flat_map value_bytes t) (sym (drop_of_length-le cells past)) ∙ kept
-
 -- ---- the bytes of booleans
 
 pub content_length : (n : ℕ) (bytes content rest : List ℕ) → bytes_at n bytes ≡ Ok (content, rest) → length content ≤ n

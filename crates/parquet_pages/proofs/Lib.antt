@@ -2,6 +2,7 @@ pub mod BitsLemmas
 pub mod LevelsLemmas
 pub mod CellsLemmas
 pub mod PageLemmas
+pub mod PartsLemmas
 pub mod SizeLemmas
 pub mod AgainLemmas
 pub mod PageAgainLemmas

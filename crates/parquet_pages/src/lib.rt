@@ -10,6 +10,7 @@ mod bits;
 mod laws;
 mod levels;
 mod page;
+mod page_cells;
 mod page_error;
 mod plain;
 mod read_error;
@@ -18,5 +19,6 @@ pub use laws::{
     levels_are_runs, pages_are_read, written_levels_are_read, written_pages_are_read, written_sizes,
 };
 pub use levels::{levels_read, levels_write};
-pub use page::{read_page, strange_encoding, write_page};
+pub use page::{put_page, read_page, strange_encoding, write_page};
+pub use page_cells::PageCells;
 pub use page_error::PageError;

@@ -1,15 +1,17 @@
 // Pages: a header, levels and values.
 ghost use Rattle.std.specs.Prelude.{◌≡◌, ◌<◌, ◌≤◌, ◌^◌, ◌++◌, map, length, take, Ok, IfOk, IfErr, OnOk, IfSome, OnSome};
-ghost use Rattle.parquet_pages.specs.Levels.{levels_bytes, levels_body};
-ghost use Rattle.parquet_pages.specs.Plain.{values_bytes};
-ghost use Rattle.parquet_pages.specs.Pages.{has_value, body_bytes, header_of, page_bytes, FitsPage, body_at, whole, body_size, page_cells, strange_encoding, page_at};
+ghost use Rattle.std.specs.List.{flat_map};
+ghost use Rattle.parquet_pages.specs.Plain.{value_bytes};
+ghost use Rattle.parquet_pages.specs.Pages.{header_of, page_bytes, FitsPage, body_at, whole, body_size, page_cells, strange_encoding, page_at};
+ghost use Rattle.parquet_pages.specs.Parts.{parts_of, parts_body, parts_page};
 ghost use Rattle.parquet_pages.specs.Answers.{AnswersPage, AnswersHeader, Reads};
 ghost use Rattle.parquet_meta.specs.PageHeaders.{page_header_at};
 ghost use Rattle.parquet_meta.specs.Written.{page_header_bytes};
 
-use crate::levels::{levels_at, put_levels};
+use crate::levels::levels_at;
+use crate::page_cells::PageCells;
 use crate::page_error::PageError;
-use crate::plain::{full_values_at, put_values, values_at};
+use crate::plain::{full_values_at, values_at};
 use crate::read_error::ReadError;
 use hudi_base::{Bytes, Column, Value, Values};
 use parquet_meta::{MetaError, PageHeader, read_page_header, write_page_header};
@@ -138,32 +140,6 @@ pub fn read_page(alloc: Global, column: &Column, bytes: &[u8]) -> Result<(Values
     }
 }
 
-fn has_value(cell: &Value) -> bool
-    ensures { result ≡ has_value cell.now }
-{
-    !matches!(cell, Value::Null)
-}
-
-fn levels_of(alloc: Global, cells: &[Value]) -> Result<Vec<bool>, AllocError>
-    ensures { IfOk result (λ levels. levels.items ≡ map has_value cells.now) }
-{
-    cells.iter().map(has_value).collect(alloc)
-}
-
-// The body of a page.
-fn body_of(alloc: Global, column: &Column, cells: &[Value]) -> Result<Vec<u8>, AllocError>
-    requires { length (body_bytes column.now cells.now) < 2 ^ 31 }
-    ensures { IfOk result (λ body. body.items ≡ body_bytes column.now cells.now) }
-{
-    let mut body = Vec::new(alloc);
-    if column.optional {
-        let levels = levels_of(alloc, cells)?;
-        put_levels(alloc, &mut body, &levels)?;
-    }
-    put_values(alloc, &mut body, column, cells)?;
-    Ok(body)
-}
-
 fn header_of(size: usize, count: usize) -> PageHeader
     requires size { size < 2 ^ 31 }
     requires count { count < 2 ^ 31 }
@@ -180,20 +156,6 @@ fn header_of(size: usize, count: usize) -> PageHeader
     }
 }
 
-/// The one written form of a page of these cells, which are of the column; the page has fewer than 2^31 bytes and cells.
-/// The only error is want of memory.
-pub fn write_page(alloc: Global, column: &Column, cells: &Values) -> Result<Bytes, PageError>
-    requires { FitsPage column.now cells.now }
-    ensures written { IfOk result (λ bytes. bytes ≡ page_bytes column.now cells.now) }
-    ensures memory { IfErr result (λ error. error ≡ PageError.Memory) }
-{
-    let body = body_of(alloc, column, cells.as_slice())?;
-    let header = header_bytes(alloc, &header_of(body.len(), cells.len()))?;
-    let mut page = Vec::from_slice(alloc, header.as_slice())?;
-    page.extend_from_slice(&body)?;
-    Ok(Bytes::from_vec(page))
-}
-
 // The bytes of a header.
 fn header_bytes(alloc: Global, header: &PageHeader) -> Result<Bytes, AllocError>
     ensures { IfOk result (λ bytes. bytes ≡ page_header_bytes header.now) }
@@ -202,4 +164,51 @@ fn header_bytes(alloc: Global, header: &PageHeader) -> Result<Bytes, AllocError>
         Ok(bytes) => Ok(bytes),
         Err(_) => Err(AllocError),
     }
+}
+
+/// Adds the one written form of a page of so many cells; the page's body has fewer than 2^31 bytes. The only error is want
+/// of memory.
+pub fn put_page(
+    alloc: Global,
+    column: &Column,
+    count: usize,
+    cells: &PageCells,
+    out: &mut Vec<u8>,
+) -> Result<(), AllocError>
+    requires size { length (parts_body column.now cells.now) < 2 ^ 31 }
+    requires count { count < 2 ^ 31 }
+    ensures { OnOk result (out.new.items ≡ out.old.items ++ parts_page column.now count cells.now) }
+{
+    let levels = cells.level_bytes(alloc, column)?;
+    let truths = cells.truth_bytes(alloc, column)?;
+    let values = cells.values(column, &truths);
+    let header = header_bytes(alloc, &header_of(levels.len() + values.len(), count))?;
+    out.extend_from_slice(header.as_slice())?;
+    out.extend_from_slice(&levels)?;
+    out.extend_from_slice(values)
+}
+
+// Cells of a column as the parts of a page.
+fn cells_of(alloc: Global, column: &Column, cells: &[Value]) -> Result<PageCells, AllocError>
+    requires { length (flat_map value_bytes cells.now) < 2 ^ 31 }
+    ensures { IfOk result (λ parts. parts ≡ parts_of column.now cells.now) }
+{
+    let mut parts = PageCells::new(alloc);
+    for cell in cells {
+        parts.add(column, cell)?;
+    }
+    Ok(parts)
+}
+
+/// The one written form of a page of these cells, which are of the column; the page has fewer than 2^31 bytes and cells.
+/// The only error is want of memory.
+pub fn write_page(alloc: Global, column: &Column, cells: &Values) -> Result<Bytes, PageError>
+    requires { FitsPage column.now cells.now }
+    ensures written { IfOk result (λ bytes. bytes ≡ page_bytes column.now cells.now) }
+    ensures memory { IfErr result (λ error. error ≡ PageError.Memory) }
+{
+    let parts = cells_of(alloc, column, cells.as_slice())?;
+    let mut page = Vec::new(alloc);
+    put_page(alloc, column, cells.len(), &parts, &mut page)?;
+    Ok(Bytes::from_vec(page))
 }

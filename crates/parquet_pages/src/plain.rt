@@ -1,21 +1,17 @@
 // The values of a page.
-ghost use Rattle.std.specs.Prelude.{◌≡◌, ◌<◌, ◌≤◌, ◌*◌, ◌^◌, ◌++◌, ◌∷◌, [], length, replicate, true, count_by, OnOk, IfOk};
-ghost use Rattle.std.specs.List.{flat_map};
+ghost use Rattle.std.specs.Prelude.{◌≡◌, ◌<◌, ◌≤◌, ◌*◌, ◌^◌, ◌++◌, ◌∷◌, [], length, replicate, true, count_by, IfOk};
 ghost use Rattle.byteorder.specs.Endian.{little_number};
 ghost use Rattle.byte_fields.specs.Numbers.{number_at};
 ghost use Rattle.byte_fields.specs.Prefixed.{text_at};
 ghost use Rattle.byte_fields.specs.Reading.{Gives};
 ghost use Rattle.parquet_meta.specs.Reading.{with_value};
 ghost use Rattle.parquet_pages.specs.Levels.{bits_of};
-ghost use Rattle.parquet_pages.specs.Plain.{value_bytes, truth_of, truths_of, values_bytes, array_at, value_at, cell_at, cells_at, boolean_cells, booleans_at, values_at};
+ghost use Rattle.parquet_pages.specs.Plain.{array_at, value_at, cell_at, cells_at, boolean_cells, booleans_at, values_at};
 ghost use Rattle.parquet_pages.specs.Answers.{Reads};
 
-use crate::bits::{push_bytes, put_bits};
+use crate::bits::push_bytes;
 use crate::read_error::ReadError;
-use byte_fields::{
-    FieldError, bytes_at, i32_at, i64_at, put_i32, put_i64, put_u32_prefixed, u32_prefixed_at,
-    utf8_text,
-};
+use byte_fields::{FieldError, bytes_at, i32_at, i64_at, u32_prefixed_at, utf8_text};
 use byteorder::LittleEndian;
 use hudi_base::{Bytes, Column, Name, Value, Values};
 use sqlite_items::Items;
@@ -100,6 +96,17 @@ fn push_cell<'a>(
     }
 }
 
+// A value that isn't a boolean has at least so many bytes.
+const LEAST_VALUE_BYTES: usize = 4;
+
+// No cells, with room for as many of so many as the bytes may hold values.
+fn no_cells(alloc: Global, count: usize, bytes: &[u8]) -> Result<Values, AllocError>
+    ensures { IfOk result (λ cells. cells ≡ []) }
+{
+    let room = count.min(bytes.len() / LEAST_VALUE_BYTES);
+    Ok(Items::from_vec(Vec::with_capacity(alloc, room)?))
+}
+
 // Cells of which the levels tell the nulls.
 fn cells_at<'a>(
     alloc: Global,
@@ -109,7 +116,7 @@ fn cells_at<'a>(
 ) -> Result<(Values, &'a [u8]), ReadError>
     ensures { Reads (λ x. (x.0, x.1.now)) result (cells_at column.now levels.now bytes.now) }
 {
-    let mut cells = Items::new(alloc);
+    let mut cells = no_cells(alloc, levels.len(), bytes)?;
     let mut rest = bytes;
     for level in levels {
         rest = push_cell(alloc, column, *level, rest, &mut cells)?;
@@ -126,7 +133,7 @@ fn full_cells_at<'a>(
 ) -> Result<(Values, &'a [u8]), ReadError>
     ensures { Reads (λ x. (x.0, x.1.now)) result (cells_at column.now (replicate count true) bytes.now) }
 {
-    let mut cells = Items::new(alloc);
+    let mut cells = no_cells(alloc, count as usize, bytes)?;
     let mut rest = bytes;
     for _cell in 0..count {
         rest = push_cell(alloc, column, true, rest, &mut cells)?;
@@ -231,66 +238,5 @@ pub(crate) fn full_values_at<'a>(
         full_booleans_at(alloc, count, bytes)
     } else {
         full_cells_at(alloc, column, count, bytes)
-    }
-}
-
-// Adds a value that isn't a boolean; a null has none.
-#[tactic(auto, unfolding(byte_fields::specs::Prefixed::with_length))]
-fn put_value(out: &mut Vec<u8>, value: &Value) -> Result<(), AllocError>
-    requires { length (value_bytes value.now) < 2 ^ 31 }
-    ensures { OnOk result (out.new.items ≡ out.old.items ++ value_bytes value.now) }
-{
-    match value {
-        Value::Int(number) => put_i32::<LittleEndian>(out, *number),
-        Value::Long(number) => put_i64::<LittleEndian>(out, *number),
-        Value::Bytes(content) => put_u32_prefixed::<LittleEndian>(out, content.as_slice()),
-        Value::Text(text) => put_u32_prefixed::<LittleEndian>(out, text.as_slice()),
-        _ => Ok(()),
-    }
-}
-
-// Adds the values of cells that aren't booleans.
-fn put_plain(out: &mut Vec<u8>, cells: &[Value]) -> Result<(), AllocError>
-    requires { length (flat_map value_bytes cells.now) < 2 ^ 31 }
-    ensures { OnOk result (out.new.items ≡ out.old.items ++ flat_map value_bytes cells.now) }
-{
-    for cell in cells {
-        put_value(out, cell)?;
-    }
-    Ok(())
-}
-
-fn truth_of(cell: &Value) -> Option<bool>
-    ensures { result ≡ truth_of cell.now }
-{
-    match cell {
-        Value::Boolean(truth) => Some(*truth),
-        _ => None,
-    }
-}
-
-// The booleans among cells.
-fn truths_of(alloc: Global, cells: &[Value]) -> Result<Vec<bool>, AllocError>
-    ensures { IfOk result (λ truths. truths.items ≡ truths_of cells.now) }
-{
-    cells.iter().filter_map(truth_of).collect(alloc)
-}
-
-/// Adds the values of a column's cells.
-#[tactic(auto, unfolding(crate::specs::Plain::values_bytes))]
-pub(crate) fn put_values(
-    alloc: Global,
-    out: &mut Vec<u8>,
-    column: &Column,
-    cells: &[Value],
-) -> Result<(), AllocError>
-    requires { length (values_bytes column.now cells.now) < 2 ^ 31 }
-    ensures { OnOk result (out.new.items ≡ out.old.items ++ values_bytes column.now cells.now) }
-{
-    if column.physical == BOOLEAN {
-        let truths = truths_of(alloc, cells)?;
-        put_bits(out, &truths)
-    } else {
-        put_plain(out, cells)
     }
 }

@@ -4,15 +4,20 @@ use Rattle.std.specs.Bool.{OnTrue}
 use Rattle.std.proofs.lemmas.Bool.{and_parts, leb-true}
 use Rattle.payload_merge.specs.declared.row.Row.{Row}
 use Rattle.plain_rows.specs.OwnRows.{IsOwn, is_sized_text, most_body_bytes, most_key_bytes}
-use Rattle.std.specs.Prelude.{MatchResult, IsUtf8, is_ok}
+use Rattle.std.specs.Prelude.{◌<◌, All, MatchResult, IsUtf8, is_ok}
 use Rattle.std.specs.Str.{is_utf8}
 use Rattle.std.proofs.lemmas.Bool.{false_from_ne_true}
-use Rattle.std.proofs.lemmas.Str.{IsUtf8-from_is_utf8, is_utf8-from_IsUtf8}
+use Rattle.std.proofs.lemmas.Str.{IsUtf8-from_is_utf8, is_utf8-from_IsUtf8, IsUtf8-from_ascii}
+use Rattle.std.proofs.lemmas.Str.Ascii.{IsAscii-from_all}
 
 -- a function that tells texts in UTF-8 from others gives what the test gives
 pub is_utf8_told : {X Y : Type 0} (text : List ℕ) (P : X → Type 0) (Q : Y → Type 0) (r : Result X Y) → MatchResult r (λ x. P x × IsUtf8 text) (λ y. (IsUtf8 text → ⊥) × Q y) → is_ok r ≡ is_utf8 text
 is_utf8_told text P Q (Ok x) told = sym (is_utf8-from_IsUtf8 text told.1)
 is_utf8_told text P Q (Err y) told = sym (false_from_ne_true (is_utf8 text) (λ passes. told.0 (IsUtf8-from_is_utf8 text passes)))
+
+-- ASCII is a text
+pub ascii_is_text : (text : List ℕ) → All (λ byte. byte < 128) text → is_utf8 text ≡ true
+ascii_is_text text all = is_utf8-from_IsUtf8 text (IsUtf8-from_ascii text (IsAscii-from_all text all))
 
 -- what the test of a text says
 record IsText (least most : ℕ) (text : List ℕ) : Type 0 where

@@ -61,14 +61,18 @@ pub(crate) fn cells_of(alloc: Global, row: &Row, file_id: &Name) -> Result<Value
     ensures time { OnOk result (IsTime row.now.commit) }
     ensures place { OnOk result (row.now.seq < 2 ^ 32) }
 {
-    let mut cells = Values::new(alloc);
-    cells.push(Value::Text(file_id.copy(alloc)?))?;
-    cells.push(Value::Long(row.commit.ms() as i64))?;
-    cells.push(Value::Long(row.seq as i64))?;
-    cells.push(Value::Bytes(row.key.copy(alloc)?))?;
-    cells.push(Value::Long(row.rank))?;
-    cells.push(Value::Bytes(row.body.copy(alloc)?))?;
-    Ok(cells)
+    let file = file_id.copy(alloc)?;
+    let key = row.key.copy(alloc)?;
+    let body = row.body.copy(alloc)?;
+    let cells = vec![in alloc;
+        Value::Text(file),
+        Value::Long(row.commit.ms() as i64),
+        Value::Long(row.seq as i64),
+        Value::Bytes(key),
+        Value::Long(row.rank),
+        Value::Bytes(body),
+    ]?;
+    Ok(Values::from_vec(cells))
 }
 
 // The time that a cell says.

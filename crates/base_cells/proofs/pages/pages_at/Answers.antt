@@ -43,12 +43,12 @@ pub loop-left-preserved : goal.loop-left-preserved
 loop-left-preserved c =
     let s = c.loop-left.invariant.2 in
     let len : c.len-left.result ≡ length c.in_ok-page.page = c.len-left.ensures in
-    let longer : c.append.new.self ≡ c.loop-left.cells ++ c.in_ok-page.page = c.in_ok-append.ensures in
-    let found = went_on c.loop-left.at c.loop-left.left c.in_ok-page.len c.args.column.now c.args.bytes.now c.loop-left.cells c.in_ok-page.page c.append.new.self s.0 (pages_at (suc (length c.args.bytes.now)) c.args.column.now c.args.count c.args.start c.args.bytes.now)
+    let longer : c.in_ok-cells.cells ≡ c.loop-left.cells ++ c.in_ok-page.page = c.in_ok-cells.ensures in
+    let found = went_on c.loop-left.at c.loop-left.left c.in_ok-page.len c.args.column.now c.args.bytes.now c.loop-left.cells c.in_ok-page.page c.in_ok-cells.cells s.0 (pages_at (suc (length c.args.bytes.now)) c.args.column.now c.args.count c.args.start c.args.bytes.now)
     c.loop-left.invariant.0 s.1 (omega arith) c.in_ok-page.ensures.some c.in_ok-page.ensures.page longer s.2 in (
       c.in_ok-page.ensures.within,
       omega (arith, ap (length {A = Value}) longer, length-append c.loop-left.cells c.in_ok-page.page, c.in_ok-page.ensures.few, len),
-      (found.0, found.1, found.2 ∙ ap (λ (k : ℕ). behind c.append.new.self (pages_at found.0 c.args.column.now (c.loop-left.left - k) (c.loop-left.at + c.in_ok-page.len) c.args.bytes.now)) (sym len)),
+      (found.0, found.1, found.2 ∙ ap (λ (k : ℕ). behind c.in_ok-cells.cells (pages_at found.0 c.args.column.now (c.loop-left.left - k) (c.loop-left.at + c.in_ok-page.len) c.args.bytes.now)) (sym len)),
     )
 
 pub returns-clause-cells : goal.returns-clause-cells

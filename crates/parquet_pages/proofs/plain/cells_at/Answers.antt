@@ -7,11 +7,11 @@ use Rattle.parquet_pages.proofs.CellsLemmas.{with_none, cells_next, cells_Err, c
 use Rattle.parquet_pages.proofs.plain.cells_at.Goals as goal
 
 pub loop-level-init : goal.loop-level-init
-loop-level-init c = rw c.new-cells.ensures (with_none c.args.column.now c.args.levels.now c.args.bytes.now)
+loop-level-init c = rw c.in_ok-cells.ensures (with_none c.args.column.now c.args.levels.now c.args.bytes.now)
 
 pub returns-in_err-rest : goal.returns-in_err-rest
 returns-in_err-rest c =
-    let p = err_from_is_err_and c.from_residual.result c.from_residual.ensures.1 in
+    let p = err_from_is_err_and c.from_residual-in_err-rest.result c.from_residual-in_err-rest.ensures.1 in
     rw (p.1, p.2)
     (Fails_then c.in_err-rest.field-0.0 (with_value (λ cell. c.loop-level.cells ++ cell ∷ []) (cell_at c.args.column.now (get_or c.args.levels.now c.loop-level.level-index false) c.loop-level.rest.now)) (cells_at c.args.column.now c.args.levels.now c.args.bytes.now)
     (λ error e. sym c.loop-level.invariant ∙ cells_Err c.args.column.now c.loop-level.level-index c.loop-level.cells c.args.levels.now c.loop-level.rest.now error c.loop-level-test.true e)

@@ -9,11 +9,11 @@ use Rattle.parquet_pages.proofs.plain.full_cells_at.Goals as goal
 pub loop-cell-init : goal.loop-cell-init
 loop-cell-init c =
     let all : c.args.count - 0 ≡ c.args.count = omega arith in
-    rw (c.new-cells.ensures, all) (with_none c.args.column.now (replicate c.args.count true) c.args.bytes.now)
+    rw (c.in_ok-cells.ensures, all) (with_none c.args.column.now (replicate c.args.count true) c.args.bytes.now)
 
 pub returns-in_err-rest : goal.returns-in_err-rest
 returns-in_err-rest c =
-    let p = err_from_is_err_and c.from_residual.result c.from_residual.ensures.1 in
+    let p = err_from_is_err_and c.from_residual-in_err-rest.result c.from_residual-in_err-rest.ensures.1 in
     rw (p.1, p.2)
     (Fails_then c.in_err-rest.field-0.0 (with_value (λ cell. c.loop-cell.cells ++ cell ∷ []) (cell_at c.args.column.now true c.loop-cell.rest.now)) (cells_at c.args.column.now (replicate c.args.count true) c.args.bytes.now)
     (λ error e. sym c.loop-cell.invariant ∙ full_Err c.args.column.now (c.args.count - c.loop-cell._cell) (c.args.count - (c.loop-cell._cell + 1)) c.loop-cell.cells c.loop-cell.rest.now error (omega arith) e)
