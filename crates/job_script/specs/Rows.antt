@@ -1,12 +1,17 @@
 -- The rows of an upsert as rows of a table.
-use Rattle.std.specs.Prelude.{◌≡◌, ℕ, ◌≤◌, List, IsUtf8, length, codes, Ok, All}
+use Rattle.std.specs.Prelude.{◌≡◌, ℕ, ◌≤◌, List, [], ◌∷◌, IsUtf8, length, codes, Ok, All}
 use Rattle.hudi_base.specs.InstantTime.{first_time}
+use Rattle.hudi_base.specs.declared.value.Value.{Value, Text, Long, Record}
 use Rattle.payload_merge.specs.declared.row.Row.{Row}
 use Rattle.job_script.specs.Script.{most_body_bytes, most_key_bytes, most_rows, script_of}
 use Rattle.job_script.specs.declared.script.InputRow.{InputRow}
 use Rattle.job_script.specs.declared.script.Line.{Line}
 use Rattle.job_script.specs.declared.script.Line.TheVariants.{Upsert, Snapshot}
 use Rattle.job_script.specs.declared.script.ScriptJob.{ScriptJob}
+
+-- a row of a script as a value: the record of its key, its rank and its body
+abbrev pub value_of_input : InputRow → Value
+value_of_input row = Record (Text row.key ∷ Long row.rank ∷ Text row.body ∷ [])
 
 -- a row of a script as a row of the one partition; its writer gives it the instant and its place
 abbrev pub row_of_input : InputRow → Row

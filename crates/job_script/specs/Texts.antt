@@ -9,6 +9,8 @@ use Rattle.serde_json.specs.View.{items_of}
 use Rattle.serde_json.specs.Written.{compact_text}
 use Rattle.table_core.specs.declared.job_reply.JobReply.{JobReply}
 use Rattle.table_core.specs.declared.job_reply.JobReply.TheVariants as job
+use Rattle.table_core.specs.declared.job_reply.RowCause.{RowCause}
+use Rattle.table_core.specs.declared.job_reply.RowCause.TheVariants.{Mismatch, NoKey, BadPartition, NoOrdering, TooLarge}
 use Rattle.table_history.specs.Histories.{History}
 use Rattle.table_history.specs.declared.reply.Cause.{Cause}
 use Rattle.table_history.specs.declared.reply.Cause.TheVariants as cause
@@ -54,8 +56,16 @@ cause_text cause.Log = codes "log"
 cause_text cause.Base = codes "base"
 cause_text cause.Content = codes "content"
 
+abbrev pub row_cause_text : RowCause → List ℕ
+row_cause_text (Mismatch field) = codes "mismatch " ++ decimal field
+row_cause_text NoKey = codes "no_key"
+row_cause_text BadPartition = codes "bad_partition"
+row_cause_text NoOrdering = codes "no_ordering"
+row_cause_text TooLarge = codes "too_large"
+
 unfoldable pub answer_text : JobReply → List ℕ
 answer_text (job.Committed t) = codes "committed " ++ time_text t
+answer_text (job.BadRow place cause) = codes "bad_row " ++ decimal place ++ codes " " ++ row_cause_text cause
 answer_text (job.Rows time rows) = codes "rows " ++ time_or_none time ++ codes " " ++ rows_text rows
 answer_text (job.NotCompleted t) = codes "not_completed " ++ time_text t
 answer_text job.TimeOver = codes "time_over"

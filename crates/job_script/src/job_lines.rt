@@ -1,7 +1,7 @@
 // The line of a job and its answer.
 ghost use Rattle.std.specs.Prelude.{◌≡◌, ◌++◌, ◌∷◌, [], codes, decimal, OnOk, OnErr};
 ghost use Rattle.job_script.specs.Putting.{Puts};
-ghost use Rattle.job_script.specs.Texts.{answer_text, cause_text, job_text, name_of_line, rows_text, time_or_none};
+ghost use Rattle.job_script.specs.Texts.{answer_text, cause_text, job_text, name_of_line, row_cause_text, rows_text, time_or_none};
 
 use crate::json_rows::put_rows;
 use crate::putting::{put_text, put_time_or_none, put_timed};
@@ -9,7 +9,7 @@ use crate::script::{Line, ScriptJob};
 use hudi_base::{InstantTime, Name};
 use payload_merge::Row;
 use std::alloc::{AllocError, Global};
-use table_core::JobReply;
+use table_core::{JobReply, RowCause};
 use table_history::Cause;
 
 /// Adds the line of a job and its answer at the end of a text. The only error is want of memory, and then the text is
@@ -75,12 +75,51 @@ fn put_answer(alloc: Global, out: &mut Vec<u8>, reply: &JobReply) -> Result<(), 
 {
     match reply {
         JobReply::Committed(time) => put_timed(out, "committed ", *time),
+        JobReply::BadRow(place, cause) => put_bad_row(alloc, out, *place, *cause),
         JobReply::Rows(time, rows) => put_snapshot(alloc, out, *time, rows.as_slice()),
         JobReply::NotCompleted(time) => put_timed(out, "not_completed ", *time),
         JobReply::TimeOver => put_text(out, "time_over"),
         JobReply::Fault => put_text(out, "fault"),
         JobReply::Damaged(name, cause, at) => put_damaged(alloc, out, name, *cause, *at),
         JobReply::Memory => put_text(out, "memory"),
+    }
+}
+
+// Adds the answer that tells of a row or key which is refused.
+fn put_bad_row(
+    alloc: Global,
+    out: &mut Vec<u8>,
+    place: u32,
+    cause: RowCause,
+) -> Result<(), AllocError>
+    ensures { Puts result out.old.items out.new.items
+        (codes "bad_row " ++ decimal place ++ codes " " ++ row_cause_text cause) }
+{
+    put_refused(alloc, out, place)?;
+    put_row_cause(alloc, out, cause)
+}
+
+// Adds the place of a row or key which is refused.
+fn put_refused(alloc: Global, out: &mut Vec<u8>, place: u32) -> Result<(), AllocError>
+    ensures { Puts result out.old.items out.new.items (codes "bad_row " ++ decimal place ++ codes " ") }
+{
+    let text = format!(in alloc; "bad_row {place} ")?;
+    put_text(out, text.as_str())
+}
+
+// Adds why it is.
+fn put_row_cause(alloc: Global, out: &mut Vec<u8>, cause: RowCause) -> Result<(), AllocError>
+    ensures { Puts result out.old.items out.new.items (row_cause_text cause) }
+{
+    match cause {
+        RowCause::Mismatch(field) => {
+            let text = format!(in alloc; "mismatch {field}")?;
+            put_text(out, text.as_str())
+        }
+        RowCause::NoKey => put_text(out, "no_key"),
+        RowCause::BadPartition => put_text(out, "bad_partition"),
+        RowCause::NoOrdering => put_text(out, "no_ordering"),
+        RowCause::TooLarge => put_text(out, "too_large"),
     }
 }
 

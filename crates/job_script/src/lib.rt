@@ -20,5 +20,5 @@ mod values;
 pub use job_lines::put_job_text;
 pub use laws::scripts_have_sizes;
 pub use marks::put_mark_text;
-pub use rows::rows_of_input;
+pub use rows::value_of_input;
 pub use script::{InputRow, Line, ScriptError, ScriptJob, parse_script};

@@ -1,12 +1,14 @@
 // Jobs of scripts on a table in memory.
 ghost use Rattle.std.specs.Prelude.{◌≡◌, [], All, IfOk, IsTrue};
-ghost use Rattle.job_script.specs.Rows.{AreSized, HasSizes};
-ghost use Rattle.job_tests.specs.NewJobs.{IsNew};
+ghost use Rattle.job_script.specs.Rows.{AreSized, HasSizes, IsSized};
+ghost use Rattle.plain_rows.specs.PlainValues.{IsPlainValue};
+ghost use Rattle.upsert_writer.specs.BatchFits.{BatchFits};
+ghost use Rattle.job_tests.specs.NewJobs.{IsNew, are_given};
 
 use hudi_base::{Gate, Name, Place, Sequence};
 use job_script::{
-    InputRow, Line, ScriptJob, parse_script, put_job_text, put_mark_text, rows_of_input,
-    scripts_have_sizes,
+    InputRow, Line, ScriptJob, parse_script, put_job_text, put_mark_text, scripts_have_sizes,
+    value_of_input,
 };
 use plain_rows::PlainRows;
 use std::alloc::{AllocError, Global};
@@ -15,7 +17,7 @@ use table_board::{Board, Solo};
 use table_core::{Control, JobReply};
 use table_history::Work;
 use table_query::snapshot;
-use upsert_writer::{Batch, write_batch};
+use upsert_writer::{Batch, PutRow, PutRows, write_batch};
 
 /// Jobs that may write anything.
 #[derive(Drop)]
@@ -49,8 +51,8 @@ pub(crate) fn fresh(
     Ok(Board::new(alloc, store, clock, control))
 }
 
-// Whether the job of this line has made no entry.
-fn is_new(board: &MemBoard, line: u32) -> bool
+/// Whether the job of this line has made no entry.
+pub(crate) fn is_new(board: &MemBoard, line: u32) -> bool
     ensures { IsTrue result → IsNew line board.now.entries }
 {
     let marks = board.journal();
@@ -60,6 +62,36 @@ fn is_new(board: &MemBoard, line: u32) -> bool
         }
     }
     true
+}
+
+/// Writes a batch as the job of a line.
+pub(crate) fn write<G: Gate>(
+    alloc: Global,
+    board: MemBoard,
+    codec: &PlainRows,
+    line: u32,
+    batch: Batch,
+    gate: &G,
+) -> (MemBoard, JobReply)
+    requires new { IsNew line board.entries }
+    requires fits { BatchFits IsPlainValue batch }
+{
+    let mut solo = Solo::new(board);
+    solo.set_job(1, line);
+    let reply = write_batch(alloc, &mut solo, codec, batch, 1, gate);
+    (solo.into_board(), reply)
+}
+
+// The rows of a line as a writer is given them.
+fn given_rows(alloc: Global, rows: &[InputRow]) -> Result<PutRows, AllocError>
+    requires { All IsSized rows.now }
+    ensures { IfOk result (λ given. given ≡ are_given rows.now) }
+{
+    let mut given = Sequence::new(alloc);
+    for row in rows {
+        given.push(PutRow::Fits(value_of_input(alloc, row)?))?;
+    }
+    Ok(given)
 }
 
 // An upsert.
@@ -74,15 +106,12 @@ fn upsert<G: Gate>(
     requires new { IsNew line board.entries }
     requires sized { AreSized rows }
 {
-    let rows = rows_of_input(alloc, rows)?;
-    let mut solo = Solo::new(board);
-    solo.set_job(1, line);
-    let reply = write_batch(alloc, &mut solo, codec, Batch::Puts(rows), 1, gate);
-    Ok((solo.into_board(), reply))
+    let given = given_rows(alloc, rows.as_slice())?;
+    Ok(write(alloc, board, codec, line, Batch::Puts(given), gate))
 }
 
-// A snapshot.
-fn query<G: Gate>(
+/// A snapshot as the job of a line.
+pub(crate) fn query<G: Gate>(
     alloc: Global,
     board: MemBoard,
     codec: &PlainRows,

@@ -1,4 +1,5 @@
 pub mod CellParts
+pub mod NewRows
 pub mod OrderParts
 pub mod ReadBack
 pub mod ReadParts

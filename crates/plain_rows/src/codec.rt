@@ -10,12 +10,14 @@ ghost use Rattle.payload_merge.specs.declared.row_error.RowError.TheVariants.{Me
 ghost use Rattle.plain_rows.specs.Cells.{row_in, the_columns};
 ghost use Rattle.plain_rows.specs.Contents.{Lends, rows_in};
 ghost use Rattle.plain_rows.specs.OwnRows.{IsOwn};
+ghost use Rattle.plain_rows.specs.PlainValues.{IsPlainValue, row_of_value};
 
 use crate::cells::{cells_of, row_in, the_columns};
+use crate::new_rows::new_row;
 use crate::owned::owned;
 use crate::reading::content_at;
 use crate::writing::content_of;
-use hudi_base::{Bytes, Columns, InstantTime, Name, Values};
+use hudi_base::{Bytes, Columns, InstantTime, Name, Value, Values};
 use payload_merge::{Row, RowCodec, RowError, WriteRef, Writes};
 use std::alloc::{AllocError, Global};
 use std::marker::Model;
@@ -133,9 +135,18 @@ impl RowCodec for PlainRows {
 }
 
 impl TableCodec for PlainRows {
+    ghost use Rattle.std.specs.Prelude.{true};
+    ghost use Rattle.plain_rows.specs.NewRowLaws.{made_own};
+
     ghost table_name = { λ _. codes "r1" };
 
     ghost schema = { λ _. codes "r1" };
+
+    ghost fits = { λ _. IsPlainValue };
+
+    ghost row_made = { λ _. row_of_value };
+
+    ghost is_ordered = { λ _. true };
 
     fn table(&self) -> &Name {
         &self.table
@@ -144,4 +155,14 @@ impl TableCodec for PlainRows {
     fn schema_text(&self) -> &Bytes {
         &self.schema
     }
+
+    fn new_row(&self, alloc: Global, value: &Value) -> Result<Row, RowError> {
+        new_row(alloc, value)
+    }
+
+    fn is_ordered(&self) -> bool {
+        true
+    }
+
+    ghost new_rows_are_own = { λ _. made_own };
 }

@@ -7,6 +7,7 @@
 
 mod cells;
 mod codec;
+mod new_rows;
 mod own_rows;
 mod owned;
 mod reading;

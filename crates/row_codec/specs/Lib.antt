@@ -1,2 +1,4 @@
 pub mod JsonOutput
 pub mod Codec
+pub mod NewRowLaws
+pub mod NewRows

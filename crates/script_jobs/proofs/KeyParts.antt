@@ -6,7 +6,7 @@ use Rattle.serde_json.specs.Events.{items_len}
 use Rattle.serde_json.specs.View.{view, items_view}
 use Rattle.serde_json.specs.declared.value.Value.{Value}
 use Rattle.script_jobs.specs.DeletedKeys.{key_of, keys_of}
-use Rattle.script_jobs.specs.declared.script.DelKey.{DelKey}
+use Rattle.table_jobs.specs.declared.del_key.DelKey.{DelKey}
 
 -- more keys before keys, if there are any
 abbrev pub with_keys : List DelKey → Option (List DelKey) → Option (List DelKey)

@@ -17,7 +17,7 @@ use Rattle.table_props.proofs.EntryLemmas.{bind_Some, some_is}
 use Rattle.table_props.proofs.ToldLemmas.{has_field, ok_of_Some, only_if_Some, ordering_told}
 use Rattle.script_jobs.specs.declared.kind.JobKind.{JobKind}
 use Rattle.script_jobs.specs.declared.kind.JobKind.TheVariants as kind
-use Rattle.script_jobs.specs.declared.script.DelKey.{DelKey}
+use Rattle.table_jobs.specs.declared.del_key.DelKey.{DelKey}
 use Rattle.script_jobs.specs.declared.script.LineCause.{LineCause}
 use Rattle.script_jobs.specs.declared.script.LineCause.TheVariants.{Object, InitPlace}
 use Rattle.script_jobs.specs.Causes.{◌>>=◌, wanted, if_known}

@@ -4,7 +4,7 @@ use Rattle.serde_json.specs.Data.{Data, Items, no_items, item}
 use Rattle.serde_json.specs.Find.{get, as_number, as_i64}
 use Rattle.table_forms.specs.JsonObjects.{text_at, least_unknown}
 use Rattle.table_props.specs.PropsTexts.{only_if, ◌>>=◌}
-use Rattle.script_jobs.specs.declared.script.DelKey.{DelKey}
+use Rattle.table_jobs.specs.declared.del_key.DelKey.{DelKey}
 
 -- a rank, which may be missing
 abbrev pub rank_of : Option Data → Option (Option ℤ)

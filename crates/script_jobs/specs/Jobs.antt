@@ -11,7 +11,7 @@ use Rattle.script_jobs.specs.declared.kind.JobKind.{JobKind}
 use Rattle.script_jobs.specs.declared.kind.JobKind.TheVariants.{Init, Upsert, Delete, Snapshot}
 use Rattle.script_jobs.specs.declared.script.LineCause.{LineCause}
 use Rattle.script_jobs.specs.declared.script.LineCause.TheVariants.{Object}
-use Rattle.script_jobs.specs.declared.script.DelKey.{DelKey}
+use Rattle.table_jobs.specs.declared.del_key.DelKey.{DelKey}
 use Rattle.script_jobs.specs.Causes.{◌>>=◌, wanted, with_only}
 use Rattle.script_jobs.specs.DeletedKeys.{keys_of}
 use Rattle.script_jobs.specs.Inits.{init_of}

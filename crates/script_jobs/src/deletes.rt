@@ -6,11 +6,11 @@ ghost use Rattle.script_jobs.specs.DeletedKeys.{key_members, key_of, keys_of, ra
 ghost use Rattle.script_jobs.specs.Jobs.{keys_in};
 
 use crate::json_rows::is_item_count;
-use crate::script::{DelKey, DelKeys};
 use hudi_base::{Bytes, Name, Sequence};
 use serde_json::Value;
 use std::alloc::{AllocError, Global};
 use table_forms::{items_at, least_unknown, text_at};
+use table_jobs::{DelKey, DelKeys};
 
 // The rank that a member says, which may be missing.
 fn rank_of(rank: Option<&Value>) -> Option<Option<i64>>

@@ -11,11 +11,11 @@ use crate::fault::Fault;
 use crate::init::init_of;
 use crate::json_rows::has_rows;
 use crate::kind::{JobKind, kind_in};
-use crate::script::DelKeys;
 use hudi_base::InstantTime;
 use serde_json::Value;
 use std::alloc::Global;
 use table_forms::least_unknown;
+use table_jobs::DelKeys;
 use table_props::Props;
 
 // What a line says, but for the rows of an upsert, which stay in the line.

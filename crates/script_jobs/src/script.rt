@@ -1,20 +1,9 @@
 // Scripts and their jobs, and why a line is none.
 use crate::json_rows::JsonRows;
-use hudi_base::{Bytes, InstantTime, Name, Sequence};
+use hudi_base::{InstantTime, Name, Sequence};
 use std::alloc::AllocError;
+use table_jobs::DelKeys;
 use table_props::Props;
-
-/// A key to delete, as any texts may say it.
-#[derive(Drop)]
-pub struct DelKey {
-    pub partition: Name,
-    pub key: Bytes,
-    /// The rank, where one is told.
-    pub rank: Option<i64>,
-}
-
-/// Keys to delete, in their order.
-pub type DelKeys = Sequence<DelKey>;
 
 /// What a job does.
 #[derive(Drop)]

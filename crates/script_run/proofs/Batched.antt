@@ -1,37 +1,36 @@
--- The rows of a line can be written as one batch.
-use Rattle.std.proofs.Common.{ℕ, ◌+◌, ◌≤◌, List, [], ◌∷◌, length, map, codes, refl, arith, lit≤, lit<}
+-- The rows of a line are a batch that a writer may be given, and these are its writes.
+use Rattle.std.proofs.Common.{◌≡◌, ℕ, ◌+◌, List, [], ◌∷◌, map, Ok, refl, ap, ◌∙◌, arith}
 use Rattle.std.specs.Prelude.{All}
 use Rattle.std.proofs.lemmas.List.{length-map}
 use Rattle.std.proofs.lemmas.List.Elements.{All-cons, All-head, All-nil, All-tail}
-use Rattle.hudi_base.specs.InstantTime.{IsTime}
-use Rattle.job_script.specs.Rows.{HasSizes, IsSized, row_of_input}
-use Rattle.job_script.specs.Script.{most_rows}
+use Rattle.hudi_base.specs.declared.value.Value.{Value}
+use Rattle.job_script.specs.Rows.{AreSized, HasSizes, IsSized}
 use Rattle.job_script.specs.declared.script.InputRow.{InputRow}
 use Rattle.job_script.specs.declared.script.Line.{Line}
 use Rattle.job_script.specs.declared.script.Line.TheVariants.{Upsert, Snapshot}
-use Rattle.payload_merge.specs.declared.row.Row.{Row}
-use Rattle.table_forms.specs.NameForms.{IsPartitionPath}
-use Rattle.upsert_writer.specs.BatchRows.{IsBatch, rows_from}
-use Rattle.script_run.specs.Lines.{OwnsScriptRows, batch_of}
+use Rattle.upsert_writer.specs.BatchFits.{BatchFits, IsFit}
+use Rattle.upsert_writer.specs.Batches.{NewWrites, as_put, batch_writes, in_front, made_from, put_of}
+use Rattle.upsert_writer.specs.declared.batch.Batch.TheVariants.{Puts}
+use Rattle.script_run.specs.Lines.{IsSizedLine, TakesScriptRows, given_row, put_of_input}
 
-one_partition : IsPartitionPath (codes "x")
-one_partition = record { filled = lit≤ tt; short = lit≤ tt; seen = λ h. cc; bytes = refl }
+pub sized_line : (number : ℕ) (line : Line) → HasSizes (record { number = number; line = line }) → IsSizedLine line
+sized_line number (Upsert rows) sized = sized
+sized_line number Snapshot sized = tt
 
-all_placed : (rows : List InputRow) → All (λ row. IsPartitionPath row.partition) (map row_of_input rows)
-all_placed [] = All-nil (λ (row : Row). IsPartitionPath row.partition)
-all_placed (row ∷ rows) = All-cons (λ (row : Row). IsPartitionPath row.partition) (row_of_input row) (map row_of_input rows) one_partition (all_placed rows)
+module _ (FitsSchema : Value → Type 0) (new : NewWrites) (takes : TakesScriptRows FitsSchema new.row) where
+  all_fit : (rows : List InputRow) → All IsSized rows → All (IsFit FitsSchema) (map given_row rows)
+  all_fit [] sized = All-nil (IsFit FitsSchema)
+  all_fit (row ∷ rows) sized =
+      All-cons (IsFit FitsSchema) (given_row row) (map given_row rows) (takes row (All-head IsSized row rows sized)).0 (all_fit rows (All-tail IsSized row rows sized))
 
-all_own : (Own : Row → Type 0) → OwnsScriptRows Own → (t place : ℕ) (rows : List InputRow) → IsTime t → place + length rows ≤ most_rows → All IsSized rows
-    → All Own (rows_from t place (map row_of_input rows))
-all_own Own owns t place [] time few each = All-nil Own
-all_own Own owns t place (row ∷ rows) time few each =
-    All-cons Own (record (row_of_input row) { commit = t; seq = place }) (rows_from t (place + 1) (map row_of_input rows)) (owns row t place (All-head IsSized row rows each) time (omega arith))
-    (all_own Own owns t (place + 1) rows time (omega arith) (All-tail IsSized row rows each))
+  pub rows_fit : (rows : List InputRow) → AreSized rows → BatchFits FitsSchema (Puts (map given_row rows))
+  rows_fit rows sized = (let few = sized.few in rw (length-map rows given_row) (omega arith), all_fit rows sized.each)
 
-pub batch_ready : (Own : Row → Type 0) (number : ℕ) (line : Line) → OwnsScriptRows Own → HasSizes (record { number = number; line = line }) → IsBatch Own (batch_of line)
-batch_ready Own number (Upsert rows) owns sized = record {
-  counted = let few = sized.few in rw (length-map rows row_of_input) (omega arith);
-  placed = all_placed rows;
-  own = λ t time. let few = sized.few in all_own Own owns t 0 rows time (omega arith) sized.each;
-}
-batch_ready Own number Snapshot owns sized = record { counted = lit< tt; placed = All-nil (λ (row : Row). IsPartitionPath row.partition); own = λ t time. All-nil Own }
+  made_all : (place : ℕ) (rows : List InputRow) → All IsSized rows → made_from (put_of new) place (map given_row rows) ≡ Ok (map put_of_input rows)
+  made_all place [] sized = refl
+  made_all place (row ∷ rows) sized =
+      ap (λ made. in_front (as_put made) place (made_from (put_of new) (place + 1) (map given_row rows))) (takes row (All-head IsSized row rows sized)).1
+      ∙ ap (in_front (Ok (put_of_input row)) place) (made_all (place + 1) rows (All-tail IsSized row rows sized))
+
+  pub rows_written : (rows : List InputRow) → AreSized rows → batch_writes new (Puts (map given_row rows)) ≡ Ok (map put_of_input rows)
+  rows_written rows sized = made_all 0 rows sized.each

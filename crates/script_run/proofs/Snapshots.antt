@@ -6,7 +6,6 @@ use Rattle.std.specs.List.{AllByRecursion}
 use Rattle.hudi_base.specs.declared.file_group.GroupRef.{GroupRef}
 use Rattle.key_index.specs.Slots.{slot_of}
 use Rattle.key_index.specs.Tiling.{IsBuckets, first_group, first_groups}
-use Rattle.job_script.specs.Rows.{row_of_input}
 use Rattle.job_script.specs.declared.script.InputRow.{InputRow}
 use Rattle.job_script.specs.declared.script.Line.{Line}
 use Rattle.job_script.specs.declared.script.Line.TheVariants.{Upsert, Snapshot}
@@ -25,10 +24,10 @@ use Rattle.table_history.specs.JobLaw.{IsLegal}
 use Rattle.table_history.specs.declared.entry.Entry.{Entry}
 use Rattle.table_history.specs.declared.job.Job.{Job}
 use Rattle.table_history.specs.Targets.{is_live}
-use Rattle.upsert_writer.specs.BatchRows.{is_in_group}
+use Rattle.upsert_writer.specs.BatchWrites.{is_in_group}
 use Rattle.upsert_writer.specs.Blocks.{BlockForm}
 use Rattle.script_run.specs.Batches.{any_batch}
-use Rattle.script_run.specs.Lines.{AnswersLine}
+use Rattle.script_run.specs.Lines.{AnswersLine, put_of_input}
 use Rattle.script_run.specs.Runs.{ComesTo, IsUndamagedAnswer, RanJobs, RanLine, job_of, table_of_form}
 use Rattle.script_run.proofs.Tellings.{line_undamaged}
 
@@ -78,7 +77,7 @@ whole_before form before after from whole = record {
   undamaged = before_of IsUndamaged from.more before (subst (AllByRecursion IsUndamaged) from.is whole.undamaged);
 }
 
--- jobs came in turn, and their appends carry rows
+-- jobs came in turn, and their appends carry writes
 pub record Turned (form : BlockForm) (H : History) : Type 0 where
   pub turn : IsInTurn H
   pub carries : CarriesForm form H
@@ -88,7 +87,7 @@ turned_first form = record { turn = tt; carries = tt }
 
 line_carries : (form : BlockForm) (line : Line) (job : Job) (before after : History) (mine : List Entry) (reply : JobReply) → CarriesForm form before → IsMadeBy job before after mine
     → AnswersLine form line mine reply → CarriesForm form after
-line_carries form (Upsert rows) job before after mine reply carries made answers = writer_carries form (map row_of_input rows) before after job mine carries made answers.wrote
+line_carries form (Upsert rows) job before after mine reply carries made answers = writer_carries form (map put_of_input rows) before after job mine carries made answers.wrote
 line_carries form Snapshot job before after mine reply carries made answers = query_carries form None before after job mine carries made answers.pins
 
 turned_next : (form : BlockForm) (Stood : Type 0) (job : ScriptJob) (reply : JobReply) (before after : History) → Turned form before → RanLine form Stood job before after reply → Turned form after
@@ -115,22 +114,22 @@ whole_group_lives : (form : BlockForm) → is_live (table_of_form form) whole_gr
 unfolding first_groups
 whole_group_lives form = refl
 
-in_whole_group : (row : InputRow) → is_in_group whole_group (row_of_input row) ≡ true
+in_whole_group : (row : InputRow) → is_in_group whole_group (put_of_input row) ≡ true
 in_whole_group row =
     let within = in_range row.key in
     let from : nat_le 0 (slot_of row.key) ≡ true = grind (arith, nat_tests) in
     let to : nat_le (slot_of row.key) 65_535 ≡ true = grind (arith, nat_tests) in
     rw (from, to) refl
 
-all_in_whole_group : (rows : List InputRow) → AllByRecursion (λ row. is_in_group whole_group row ≡ true) (map row_of_input rows)
+all_in_whole_group : (rows : List InputRow) → AllByRecursion (λ w. is_in_group whole_group w ≡ true) (map put_of_input rows)
 all_in_whole_group [] = tt
 all_in_whole_group (row ∷ rows) = (in_whole_group row, all_in_whole_group rows)
 
 comes_to : (form : BlockForm) (line : Line) (job : Job) (before after : History) (mine : List Entry) (reply : JobReply) → IsMadeBy job before after mine → AnswersLine form line mine reply → Turned form before
     → IsWhole form after → ComesTo form line before after reply
 comes_to form (Upsert rows) job before after mine (Committed t) made answers turned whole = record {
-  completed = (batch_written any_batch form 1 (map row_of_input rows) before after job mine t made whole.legal answers.wrote answers.answers).completed;
-  wrote = whole_batch any_batch form 1 (map row_of_input rows) before after job mine t whole_group one_bucket made whole.legal answers.wrote answers.answers (whole_group_lives form) (all_in_whole_group rows);
+  completed = (batch_written any_batch form 1 (map put_of_input rows) before after job mine t made whole.legal answers.wrote answers.answers).completed;
+  wrote = whole_batch any_batch form 1 (map put_of_input rows) before after job mine t whole_group one_bucket made whole.legal answers.wrote answers.answers (whole_group_lives form) (all_in_whole_group rows);
 }
 comes_to form (Upsert rows) job before after mine reply made answers turned whole = tt
 comes_to form Snapshot job before after mine reply made answers turned whole =

@@ -6,12 +6,11 @@ use Rattle.hudi_base.specs.Clock.{ClockState}
 use Rattle.hudi_base.specs.Files.{FileMap, Told}
 use Rattle.hudi_base.specs.Store.{StoreState}
 use Rattle.hudi_base.specs.declared.operation.Operation.{Operation}
-use Rattle.job_script.specs.Rows.{row_of_input}
 use Rattle.job_script.specs.declared.script.Line.{Line}
 use Rattle.job_script.specs.declared.script.Line.TheVariants.{Upsert, Snapshot}
 use Rattle.job_script.specs.declared.script.ScriptJob.{ScriptJob}
-use Rattle.payload_merge.specs.declared.row.Row.{Row}
-use Rattle.payload_merge.specs.declared.row.Write.TheVariants.{Put}
+use Rattle.payload_merge.specs.Fold.{writes_from}
+use Rattle.payload_merge.specs.declared.row.Write.{Write}
 use Rattle.table_answers.specs.InTurn.{IsMadeBy}
 use Rattle.table_answers.specs.InstantWrites.{writes_of}
 use Rattle.table_answers.specs.Snapshots.{AnswersSnapshot}
@@ -26,10 +25,9 @@ use Rattle.table_history.specs.JobLaw.{IsLegal}
 use Rattle.table_history.specs.Tables.{Table, fresh}
 use Rattle.table_history.specs.declared.entry.Entry.{Entry}
 use Rattle.table_history.specs.declared.job.Job.{Job}
-use Rattle.upsert_writer.specs.BatchRows.{rows_from}
 use Rattle.upsert_writer.specs.Blocks.{BlockForm}
 use Rattle.script_run.specs.Batches.{any_batch}
-use Rattle.script_run.specs.Lines.{AnswersLine}
+use Rattle.script_run.specs.Lines.{AnswersLine, put_of_input}
 
 -- ---- a job
 
@@ -41,15 +39,15 @@ job_of line = record { lane = 1; line = line }
 abbrev pub table_of_form : BlockForm → Table
 table_of_form form = fresh form.table 1
 
--- the instant is completed, and its writes are these rows, all of them in their order
-pub record IsCommitted (form : BlockForm) (H : History) (t : ℕ) (rows : List Row) : Type 0 where
+-- the instant is completed, and its writes are these, all of them in their order, with the instant and their places
+pub record IsCommitted (form : BlockForm) (H : History) (t : ℕ) (batch : List Write) : Type 0 where
   pub completed : is_completed (table_of_form form) H t ≡ true
-  pub wrote : writes_of form (table_of_form form) H t ≡ map Put (rows_from t 0 rows)
+  pub wrote : writes_of form (table_of_form form) H t ≡ writes_from t 0 batch
 
 -- What an answer comes to in the table: an upsert that is committed wrote the rows of its line, and a snapshot is that of
 -- the instants which were completed when it began.
 abbrev pub ComesTo : BlockForm → Line → History → History → JobReply → Type 0
-ComesTo form (Upsert rows) before after (Committed t) = IsCommitted form after t (map row_of_input rows)
+ComesTo form (Upsert rows) before after (Committed t) = IsCommitted form after t (map put_of_input rows)
 ComesTo form (Upsert rows) before after reply = Unit {0}
 ComesTo form Snapshot before after reply = AnswersSnapshot form (table_of_form form) before None reply
 

@@ -2,7 +2,7 @@
 ghost use Rattle.std.specs.Prelude.{◌≡◌, [], MatchResult, List};
 ghost use Rattle.job_script.specs.Rows.{HasSizes};
 ghost use Rattle.job_script.specs.Texts.{job_text};
-ghost use Rattle.script_run.specs.Lines.{OwnsScriptRows};
+ghost use Rattle.script_run.specs.Lines.{TakesScriptRows};
 ghost use Rattle.script_run.specs.Parts.{AreBelow, AreFrom, RanNext, RanSoFar, StoppedAt};
 ghost use Rattle.script_run.specs.Runs.{RanLine};
 ghost use Rattle.table_board.specs.Later.{IsLater};
@@ -43,7 +43,7 @@ fn run_next<K: TableCodec, S: Store, C: Clock>(
 ) -> JobReply
     requires below { AreBelow job.number solo.old.board.entries }
     requires sized { HasSizes job }
-    requires own { OwnsScriptRows (K.own_row codec.now) }
+    requires takes { TakesScriptRows (K.fits codec.now) (K.row_made codec.now) }
     ensures ran { RanLine
         (record { reading = K.block_rows codec.now; table = K.table_name codec.now; schema = K.schema codec.now })
         ⊥ job solo.old.board.entries solo.new.board.entries result }
@@ -66,7 +66,7 @@ fn run_line<K: TableCodec, S: Store, C: Clock>(
 ) -> Result<bool, AllocError>
     requires below { AreBelow job.number solo.old.board.entries }
     requires sized { HasSizes job }
-    requires own { OwnsScriptRows (K.own_row codec.now) }
+    requires takes { TakesScriptRows (K.fits codec.now) (K.row_made codec.now) }
     ensures ran { RanNext
         (record { reading = K.block_rows codec.now; table = K.table_name codec.now; schema = K.schema codec.now })
         job solo.old.board.entries solo.new.board.entries result text.old.items text.new.items }
@@ -93,7 +93,7 @@ pub(crate) fn run_jobs<K: TableCodec, S: Store, C: Clock>(
 ) -> Result<bool, AllocError>
     requires fresh { solo.old.board.entries ≡ [] }
     requires from { AreFrom 1 jobs }
-    requires own { OwnsScriptRows (K.own_row codec.now) }
+    requires takes { TakesScriptRows (K.fits codec.now) (K.row_made codec.now) }
     requires empty { text.old.items ≡ [] }
     ensures ran { MatchResult result
         (λ failed. RanSoFar

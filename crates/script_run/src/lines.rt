@@ -1,21 +1,33 @@
 // The job of one line.
-ghost use Rattle.std.specs.Prelude.{◌≡◌, ◌<◌, ◌^◌, List, [], map, length};
-ghost use Rattle.job_script.specs.Rows.{row_of_input};
-ghost use Rattle.script_run.specs.Lines.{AnswersLine, AnswersUpsert, batch_of};
+ghost use Rattle.std.specs.Prelude.{◌≡◌, List, [], map, All, IfOk};
+ghost use Rattle.job_script.specs.Rows.{AreSized, IsSized};
+ghost use Rattle.script_run.specs.Lines.{AnswersLine, IsSizedLine, TakesScriptRows, batch_of, given_row, put_of_input};
 ghost use Rattle.table_history.specs.JobLaw.{GoesOn, entries_of};
 ghost use Rattle.table_history.specs.declared.step.PartitionSlots.{PartitionSlots};
-ghost use Rattle.upsert_writer.specs.BatchRows.{IsBatch};
+ghost use Rattle.upsert_writer.specs.Answers.{IsWritten};
 ghost use Rattle.upsert_writer.specs.Blocks.{HoldsEach};
 ghost use Rattle.upsert_writer.specs.Slots.{AreSlotsOf};
 
 use hudi_base::{Gate, Place, Sequence};
-use job_script::{InputRow, Line, rows_of_input};
-use std::alloc::Global;
+use job_script::{InputRow, Line, value_of_input};
+use std::alloc::{AllocError, Global};
 use table_core::JobReply;
 use table_history::Steps;
 use table_jobs::TableCodec;
 use table_query::snapshot;
-use upsert_writer::{Batch, write_batch};
+use upsert_writer::{Batch, PutRow, PutRows, write_batch};
+
+// The rows of a line as a writer is given them.
+fn given_rows(alloc: Global, rows: &[InputRow]) -> Result<PutRows, AllocError>
+    requires { All IsSized rows.now }
+    ensures { IfOk result (λ given. given ≡ map given_row rows.now) }
+{
+    let mut given = Sequence::new(alloc);
+    for row in rows {
+        given.push(PutRow::Fits(value_of_input(alloc, row)?))?;
+    }
+    Ok(given)
+}
 
 // Writes the rows of a line.
 fn upsert<T: Steps, K: TableCodec, G: Gate>(
@@ -27,19 +39,20 @@ fn upsert<T: Steps, K: TableCodec, G: Gate>(
     gate: &G,
 ) -> JobReply
     requires new { T.mine steps.old ≡ [] }
-    requires batch { IsBatch (K.own_row codec.now) (map row_of_input rows) }
-    requires asks { (slots : List PartitionSlots) → AreSlotsOf (map row_of_input rows) slots → T.asks (T.job steps.old) slots }
+    requires sized { AreSized rows }
+    requires takes { TakesScriptRows (K.fits codec.now) (K.row_made codec.now) }
+    requires asks { (slots : List PartitionSlots) → AreSlotsOf (map put_of_input rows) slots → T.asks (T.job steps.old) slots }
     requires holds { HoldsEach T.holds (T.job steps.old)
-        (record { reading = K.block_rows codec.now; table = K.table_name codec.now; schema = K.schema codec.now }) (map row_of_input rows) }
+        (record { reading = K.block_rows codec.now; table = K.table_name codec.now; schema = K.schema codec.now }) (map put_of_input rows) }
     ensures job { T.job steps.new ≡ T.job steps.old }
     ensures seen { GoesOn (T.seen steps.old) (T.seen steps.new) }
     ensures later { T.later steps.old steps.new }
-    ensures answer { AnswersUpsert
+    ensures answer { IsWritten
         (record { reading = K.block_rows codec.now; table = K.table_name codec.now; schema = K.schema codec.now })
-        rows (entries_of (T.mine steps.new)) result }
+        (map put_of_input rows) (entries_of (T.mine steps.new)) result }
 {
-    match rows_of_input(alloc, rows) {
-        Ok(rows) => write_batch(alloc, steps, codec, Batch::Puts(rows), lane, gate),
+    match given_rows(alloc, rows.as_slice()) {
+        Ok(given) => write_batch(alloc, steps, codec, Batch::Puts(given), lane, gate),
         Err(_) => JobReply::Memory,
     }
 }
@@ -57,7 +70,8 @@ pub fn run_job<T: Steps, K: TableCodec, G: Gate>(
 ) -> JobReply
     // The job has made no entry yet.
     requires new { T.mine steps.old ≡ [] }
-    requires batch { IsBatch (K.own_row codec.now) (batch_of line) }
+    requires sized { IsSizedLine line }
+    requires takes { TakesScriptRows (K.fits codec.now) (K.row_made codec.now) }
     // The table takes the batch as the job's: the slots that are asked for, and the blocks that may be written of it.
     requires asks { (slots : List PartitionSlots) → AreSlotsOf (batch_of line) slots → T.asks (T.job steps.old) slots }
     requires holds { HoldsEach T.holds (T.job steps.old)

@@ -2,7 +2,7 @@
 ghost use Rattle.std.specs.Prelude.{◌≡◌, ◌⊎◌, ◌↔◌, ◌≤◌, MatchResult, [], length};
 ghost use Rattle.std.specs.Str.Lines.{lines};
 ghost use Rattle.job_script.specs.Script.{Reads, most_script_bytes, script_of};
-ghost use Rattle.script_run.specs.Lines.{OwnsScriptRows};
+ghost use Rattle.script_run.specs.Lines.{TakesScriptRows};
 ghost use Rattle.script_run.specs.Outcome.{Ends, IsSmooth, IsWithoutFiles, Means, moment};
 ghost use Rattle.script_run.specs.Parts.{AreFrom, CameTo, EndsEarly, EndsListed, IsScript};
 ghost use Rattle.script_run.specs.declared.verdict.Verdict.{Verdict};
@@ -38,7 +38,7 @@ pub fn hudi_run_solo<K: TableCodec, S: Store, C: Clock, R: Source, O: Sink>(
     input: &mut R,
     output: &mut O,
 ) -> (u8, S, C)
-    requires { OwnsScriptRows (K.own_row codec.now) }
+    requires { TakesScriptRows (K.fits codec.now) (K.row_made codec.now) }
     ensures run { (verdict : Verdict)
         × (Means (record { reading = K.block_rows codec.now; table = K.table_name codec.now; schema = K.schema codec.now })
         verdict words.now (S.is_honest store)
@@ -65,7 +65,7 @@ fn decide<K: TableCodec, S: Store, C: Clock, R: Source>(
     clock: C,
     input: &mut R,
 ) -> Ended<S, C>
-    requires { OwnsScriptRows (K.own_row codec.now) }
+    requires { TakesScriptRows (K.fits codec.now) (K.row_made codec.now) }
     ensures { Means (record { reading = K.block_rows codec.now; table = K.table_name codec.now; schema = K.schema codec.now })
         result.verdict words.now (S.is_honest store)
         (moment (S.state store) (R.state input.old) (C.state clock))
@@ -149,7 +149,7 @@ fn run_script<K: TableCodec, S: Store, C: Clock>(
     clock: C,
 ) -> Ended<S, C>
     requires from { AreFrom 1 jobs }
-    requires own { OwnsScriptRows (K.own_row codec.now) }
+    requires takes { TakesScriptRows (K.fits codec.now) (K.row_made codec.now) }
     ensures { CameTo (record { reading = K.block_rows codec.now; table = K.table_name codec.now; schema = K.schema codec.now })
         result.verdict jobs (S.is_honest store) (S.state store) (S.state result.store)
         (C.state clock) (C.state result.clock) }
@@ -175,7 +175,7 @@ fn run_fresh<K: TableCodec, S: Store, C: Clock>(
 ) -> Ended<S, C>
     requires fresh { IsWithoutFiles (S.state store).told }
     requires from { AreFrom 1 jobs }
-    requires own { OwnsScriptRows (K.own_row codec.now) }
+    requires takes { TakesScriptRows (K.fits codec.now) (K.row_made codec.now) }
     ensures { CameTo (record { reading = K.block_rows codec.now; table = K.table_name codec.now; schema = K.schema codec.now })
         result.verdict jobs (S.is_honest store) (S.state store) (S.state result.store)
         (C.state clock) (C.state result.clock) }

@@ -1,8 +1,9 @@
 // Scripts of every job: the jobs that are read from them, or the number of the line that is none and its cause.
-use script_jobs::{DelKey, Job, LineCause, LineError, Script, What, parse_script};
+use script_jobs::{Job, LineCause, LineError, Script, What, parse_script};
 use std::alloc::Global;
 use std::fmt::Write;
 use std::test::*;
+use table_jobs::DelKey;
 use table_props::Props;
 
 // A flat schema of three fields.

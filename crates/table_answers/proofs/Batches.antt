@@ -1,6 +1,6 @@
--- What a committed writer's instant wrote: the puts of its batch.
-use Rattle.std.proofs.Common.{◌≡◌, ◌+◌, ℕ, zero, suc, Bool, true, false, cond, ◌||◌, ◌&&◌, List, [], ◌∷◌, ◌++◌, append-nil, map, take, length, Option, Some, None, slice_get, refl, sym, ap, subst, ◌∙◌, arith}
-use Rattle.std.specs.Prelude.{◌==◌, IsSomeAnd, nat_lt}
+-- What a committed writer's instant wrote: its batch.
+use Rattle.std.proofs.Common.{◌≡◌, ◌⊎◌, inl, inr, Result, Ok, Err, ◌+◌, ℕ, zero, suc, Bool, true, false, cond, ◌||◌, ◌&&◌, List, [], ◌∷◌, ◌++◌, append-nil, map, take, length, Option, Some, None, slice_get, refl, sym, ap, subst, ◌∙◌, arith}
+use Rattle.std.specs.Prelude.{◌==◌, IsSomeAnd, IsOkAnd, nat_lt}
 use Rattle.std.specs.List.{AllByRecursion, flat_map, list_any}
 use Rattle.std.specs.List.Sorted.{IsStrictlySortedBy}
 use Rattle.std.specs.Ordering.{is_eq}
@@ -14,10 +14,9 @@ use Rattle.hudi_base.specs.declared.file_group.Target.{Target}
 use Rattle.file_names.specs.declared.file_name.State.TheVariants as state
 use Rattle.key_index.specs.Tiling.{IsBuckets, has_slot, is_among, is_same_group}
 use Rattle.key_index.proofs.FirstTiles.{same-is, same-itself}
-use Rattle.payload_merge.specs.Payload.{key_of_row}
-use Rattle.payload_merge.specs.declared.row.Row.{Row}
+use Rattle.payload_merge.specs.Fold.{writes_from}
+use Rattle.payload_merge.specs.Payload.{key_of}
 use Rattle.payload_merge.specs.declared.row.Write.{Write}
-use Rattle.payload_merge.specs.declared.row.Write.TheVariants.{Put}
 use Rattle.table_core.specs.KeyLaws.{same_group}
 use Rattle.table_core.specs.declared.job_reply.JobReply.TheVariants as job_reply
 use Rattle.table_history.specs.Answers.{Answers, May, is_completed}
@@ -40,9 +39,11 @@ use Rattle.table_history.proofs.OwnEntries.{linked}
 use Rattle.table_images.proofs.WhereTo.{itself_group}
 use Rattle.table_images.proofs.SameLogs.{IsNoAppend, entry}
 use Rattle.table_jobs.specs.Replies.{EndsAs, IsWriterReply}
-use Rattle.upsert_writer.specs.BatchRows.{is_in_group, rows_from, rows_to}
+use Rattle.upsert_writer.specs.Answers.{AnswersBatch}
+use Rattle.upsert_writer.specs.BatchWrites.{is_in_group, batch_in, partition_of}
+use Rattle.upsert_writer.specs.Batches.{Refusal}
 use Rattle.upsert_writer.specs.Blocks.{BlockForm, IsBlockOf}
-use Rattle.upsert_writer.specs.Slots.{AreSlotsOf, each_slot, row_slot}
+use Rattle.upsert_writer.specs.Slots.{AreSlotsOf, each_slot, write_slot}
 use Rattle.upsert_writer.specs.WriterSteps.{IsWriterStep, WritesBatch, targets_given}
 use Rattle.upsert_writer.proofs.WholeBatches.{all_go_there}
 use Rattle.table_answers.specs.InTurn.{IsMadeBy}
@@ -51,7 +52,7 @@ use Rattle.table_answers.proofs.Closed.{or_true}
 use Rattle.table_answers.proofs.Made.{AllBy, own_made}
 use Rattle.table_answers.proofs.GroupFolds.{one_live}
 use Rattle.table_answers.proofs.LiveSlices.{ArePlain, appending, instants_plain}
-use Rattle.table_answers.proofs.RowBlocks.{block_of_rows}
+use Rattle.table_answers.proofs.WriteBlocks.{block_of_writes}
 use Rattle.table_answers.proofs.Writes.{fresh_opened, one_block_more, same_writes}
 
 -- ---- lists
@@ -76,23 +77,23 @@ take_one_more xs n x is = ap (λ m. take m xs) (next n) ∙ by xs n is
 
 -- ---- how far a writer is
 
-module _ (form : BlockForm) (buckets : ℕ) (rows : List Row) where
+module _ (form : BlockForm) (buckets : ℕ) (batch : List Write) where
   abbrev A : Table
   A = fresh form.table buckets
 
-  abbrev puts_to : ℕ → List Target → List Write
-  puts_to t targets = flat_map (λ s. map Put (rows_to t s.group rows)) targets
+  abbrev batch_to : ℕ → List Target → List Write
+  batch_to t targets = flat_map (λ s. batch_in t s.group batch) targets
 
   pub record IsWriting (H : History) (es : List Entry) (t : ℕ) (targets : List Target) (blocks : ℕ) : Type 0 where
     pub given : targets_given es ≡ targets
     pub slots : List PartitionSlots
-    pub asked : AreSlotsOf rows slots
+    pub asked : AreSlotsOf batch slots
     pub are : AreTargets (fresh form.table buckets) slots targets
-    pub wrote : writes_of form (fresh form.table buckets) H t ≡ puts_to t (take blocks targets)
+    pub wrote : writes_of form (fresh form.table buckets) H t ≡ batch_to t (take blocks targets)
 
   -- completed, with these writes
   pub record IsWritten (H : History) (t : ℕ) : Type 0 where
-    pub wrote : WritesGroups rows t (fresh form.table buckets) (writes_of form (fresh form.table buckets) H t)
+    pub wrote : WritesGroups batch t (fresh form.table buckets) (writes_of form (fresh form.table buckets) H t)
     pub completed : is_completed (fresh form.table buckets) H t ≡ true
 
   abbrev Wrote : History → List Entry → Phase → Type 0
@@ -110,14 +111,14 @@ module _ (form : BlockForm) (buckets : ℕ) (rows : List Row) where
     drawn_none : (t : ℕ) → writes_of form A (entry j Begin (reply.Began t) ∷ H) t ≡ []
     drawn_none t = ap (λ b. instant_writes form (cond b (Some (begun j (completions A H))) (instant_of A H t))) (same_number t t refl)
 
-    entered_then : (u t : ℕ) (slots : List PartitionSlots) (targets : List Target) → u ≡ t → AreSlotsOf rows slots → May A H j (Enter u slots) → AreTargets A slots targets
+    entered_then : (u t : ℕ) (slots : List PartitionSlots) (targets : List Target) → u ≡ t → AreSlotsOf batch slots → May A H j (Enter u slots) → AreTargets A slots targets
         → writes_of form A H t ≡ [] → IsWriting (entry j (Enter u slots) (reply.Entered targets) ∷ H) (entry j (Enter u slots) (reply.Entered targets) ∷ es) t targets 0
     entered_then u t slots targets same asked may are none = record {
       given = refl;
       slots = slots;
       asked = asked;
       are = are;
-      wrote = same_as (Enter u slots) (reply.Entered targets) tt may are t ∙ none ∙ sym (ap (puts_to t) (take_none targets));
+      wrote = same_as (Enter u slots) (reply.Entered targets) tt may are t ∙ none ∙ sym (ap (batch_to t) (take_none targets));
     }
 
     some_is : (o : Option Target) (s : Target) (P : Target → Type 0) → o ≡ Some s → IsSomeAnd o P → P s
@@ -131,15 +132,15 @@ module _ (form : BlockForm) (buckets : ℕ) (rows : List Row) where
         here.1.1
 
     placed_then : (u t : ℕ) (targets : List Target) (blocks target writes version at : ℕ) (bytes : List ℕ) → u ≡ t → target ≡ blocks → Stands A H j (Writes t targets blocks)
-        → May A H j (Append u target writes bytes) → IsSomeAnd (slice_get (targets_given es) target) (λ s. IsBlockOf form rows u s writes bytes) → IsWriting H es t targets blocks
+        → May A H j (Append u target writes bytes) → IsSomeAnd (slice_get (targets_given es) target) (λ s. IsBlockOf form batch u s writes bytes) → IsWriting H es t targets blocks
         → IsWriting (entry j (Append u target writes bytes) (reply.Placed version at) ∷ H) (entry j (Append u target writes bytes) (reply.Placed version at) ∷ es) t targets (blocks + 1)
     placed_then u t targets blocks target writes version at bytes same next stands may has was =
         let to = appending A H j u target (plain u) may in
         let s : Target = to.0 in
         let is_targets : to.1.i.targets ≡ targets = targets_are t targets blocks to.1.i (instant_of A H t) (ap (instant_of A H) (sym same) ∙ to.1.is) stands in
         let there : slice_get targets target ≡ Some s = ap (λ ts. slice_get ts target) (sym is_targets) ∙ to.1.to in
-        let one = some_is (slice_get (targets_given es) target) s (λ s. IsBlockOf form rows u s writes bytes) (ap (λ ts. slice_get ts target) was.given ∙ there) has in
-        let block : block_writes form (Some s) bytes ≡ map Put (rows_to t s.group rows) = block_of_rows form s u writes bytes (rows_to u s.group rows) one ∙ ap (λ n. map Put (rows_to n s.group rows)) same in
+        let one = some_is (slice_get (targets_given es) target) s (λ s. IsBlockOf form batch u s writes bytes) (ap (λ ts. slice_get ts target) was.given ∙ there) has in
+        let block : block_writes form (Some s) bytes ≡ batch_in t s.group batch = block_of_writes form s u writes bytes (batch_in u s.group batch) one ∙ ap (λ n. batch_in n s.group batch) same in
         record {
           given = was.given;
           slots = was.slots;
@@ -147,15 +148,15 @@ module _ (form : BlockForm) (buckets : ℕ) (rows : List Row) where
           are = was.are;
           wrote = one_block_more form A H j u target writes version at bytes s to.1 t
               ∙ ap (λ ws. ws ++ cond (u == t) (block_writes form (Some s) bytes) []) was.wrote
-              ∙ ap (λ b. puts_to t (take blocks targets) ++ cond b (block_writes form (Some s) bytes) []) (same_number u t same)
-              ∙ ap (λ ws. puts_to t (take blocks targets) ++ ws) (block ∙ sym (append-nil (map Put (rows_to t s.group rows))))
-              ∙ sym (flat_map-append (λ (s : Target). map Put (rows_to t s.group rows)) (take blocks targets) (s ∷ []))
-              ∙ sym (ap (puts_to t) (take_one_more targets blocks s (ap (slice_get targets) (sym next) ∙ there)));
+              ∙ ap (λ b. batch_to t (take blocks targets) ++ cond b (block_writes form (Some s) bytes) []) (same_number u t same)
+              ∙ ap (λ ws. batch_to t (take blocks targets) ++ ws) (block ∙ sym (append-nil (batch_in t s.group batch)))
+              ∙ sym (flat_map-append (λ (s : Target). batch_in t s.group batch) (take blocks targets) (s ∷ []))
+              ∙ sym (ap (batch_to t) (take_one_more targets blocks s (ap (slice_get targets) (sym next) ∙ there)));
         }
 
-    of_groups : (t : ℕ) (gs : List GroupRef) → puts_to t (map target_of_group gs) ≡ flat_map (λ group. map Put (rows_to t group rows)) gs
+    of_groups : (t : ℕ) (gs : List GroupRef) → batch_to t (map target_of_group gs) ≡ flat_map (λ group. batch_in t group batch) gs
     of_groups t [] = refl
-    of_groups t (g ∷ gs) = ap (λ ws. map Put (rows_to t g rows) ++ ws) (of_groups t gs)
+    of_groups t (g ∷ gs) = ap (λ ws. batch_in t g batch ++ ws) (of_groups t gs)
 
     among_inserted : (v : ℕ) (us : List ℕ) → list_any (λ w. w == v) (insert_time v us) ≡ true
     among_inserted v [] = ap (λ b. b || false) (same_number v v refl)
@@ -174,13 +175,13 @@ module _ (form : BlockForm) (buckets : ℕ) (rows : List Row) where
         groups = was.are.groups;
         live = was.are.live;
         are = same_as (Finish u checkpoint) (reply.Completed v) tt may answers v ∙ ap (writes_of form A H) (answers ∙ same) ∙ was.wrote
-            ∙ ap (puts_to t) (take_all blocks targets (let all = count in omega (arith, all)) ∙ was.are.are) ∙ of_groups t was.are.groups
-            ∙ ap (λ n. flat_map (λ group. map Put (rows_to n group rows)) was.are.groups) (sym (answers ∙ same));
+            ∙ ap (batch_to t) (take_all blocks targets (let all = count in omega (arith, all)) ∙ was.are.are) ∙ of_groups t was.are.groups
+            ∙ ap (λ n. flat_map (λ group. batch_in n group batch) was.are.groups) (sym (answers ∙ same));
       };
       completed = among_inserted v (completed_instants A H);
     }
 
-    wrote_then : (work : Work) (s : Step) (r : Reply) (p : Phase) → IsWriterStep form rows (targets_given es) s → May A H j s → Answers A H s r → Allows work j p s → Stands A H j p → Wrote H es p
+    wrote_then : (work : Work) (s : Step) (r : Reply) (p : Phase) → IsWriterStep form batch (targets_given es) s → May A H j s → Answers A H s r → Allows work j p s → Stands A H j p → Wrote H es p
         → Wrote (entry j s r ∷ H) (entry j s r ∷ es) (next_phase p s r)
     wrote_then work (Pin asked bases_only) r p takes may answers allowed stands was = absurd takes
     wrote_then work (Unpin pin) r p takes may answers allowed stands was = absurd takes
@@ -202,35 +203,47 @@ module _ (form : BlockForm) (buckets : ℕ) (rows : List Row) where
 
 -- ---- a writer's entries
 
-pub writer_wrote : (work : Work) (form : BlockForm) (buckets : ℕ) (rows : List Row) (before : History) (job : Job) (es : List Entry) → own job before ≡ [] → AllBy job es → WritesBatch form rows es
-    → IsLegal work (fresh form.table buckets) (es ++ before) → Wrote form buckets rows (es ++ before) es (phase es)
-writer_wrote work form buckets rows before job [] first all wrote legal = tt
-writer_wrote work form buckets rows before job (e ∷ es) first all wrote legal =
+pub writer_wrote : (work : Work) (form : BlockForm) (buckets : ℕ) (batch : List Write) (before : History) (job : Job) (es : List Entry) → own job before ≡ [] → AllBy job es → WritesBatch form batch es
+    → IsLegal work (fresh form.table buckets) (es ++ before) → Wrote form buckets batch (es ++ before) es (phase es)
+writer_wrote work form buckets batch before job [] first all wrote legal = tt
+writer_wrote work form buckets batch before job (e ∷ es) first all wrote legal =
     let mine : own e.job (es ++ before) ≡ es = ap (λ j. own j (es ++ before)) all.0 ∙ own_made job before es all.1 first in
-    wrote_then form buckets rows (es ++ before) es e.job (instants_plain work form.table buckets (es ++ before) legal.0) work e.step e.reply (phase es) wrote.0 legal.1.may legal.1.answers
+    wrote_then form buckets batch (es ++ before) es e.job (instants_plain work form.table buckets (es ++ before) legal.0) work e.step e.reply (phase es) wrote.0 legal.1.may legal.1.answers
     (subst (λ xs. Allows work e.job (phase xs) e.step) mine legal.2)
     (subst (λ xs. Stands (fresh form.table buckets) (es ++ before) e.job (phase xs)) mine (linked work (fresh form.table buckets) (es ++ before) (fresh_opened form.table buckets) legal.0 e.job))
-    (writer_wrote work form buckets rows before job es first all.1 wrote.1 legal.0)
+    (writer_wrote work form buckets batch before job es first all.1 wrote.1 legal.0)
 
-committed_end : (form : BlockForm) (buckets : ℕ) (rows : List Row) (H : History) (es : List Entry) (t : ℕ) (p : Phase) → EndsAs p (job_reply.Committed t) → Wrote form buckets rows H es p → IsWritten form buckets rows H t
-committed_end form buckets rows H es t (Committed u) ends was = subst (IsWritten form buckets rows H) (same u ends) was
+committed_end : (form : BlockForm) (buckets : ℕ) (batch : List Write) (H : History) (es : List Entry) (t : ℕ) (p : Phase) → EndsAs p (job_reply.Committed t) → Wrote form buckets batch H es p → IsWritten form buckets batch H t
+committed_end form buckets batch H es t (Committed u) ends was = subst (IsWritten form buckets batch H) (same u ends) was
   where
     same : (u : ℕ) → job_reply.Committed t ≡ job_reply.Committed u → u ≡ t
     same u e = cc
-committed_end form buckets rows H es t Fresh ends was = absurd (other ends)
+committed_end form buckets batch H es t Fresh ends was = absurd (other ends)
   where
     other : job_reply.Committed t ≡ job_reply.Memory → ⊥
     other e = cc
-committed_end form buckets rows H es t p ends was = absurd ends
+committed_end form buckets batch H es t p ends was = absurd ends
 
-pub batch_written : (work : Work) (form : BlockForm) (buckets : ℕ) (rows : List Row) (before after : History) (job : Job) (mine : List Entry) (t : ℕ) → IsMadeBy job before after mine → IsLegal work (fresh form.table buckets) after
-    → WritesBatch form rows mine → IsWriterReply mine (job_reply.Committed t) → IsWritten form buckets rows after t
-batch_written work form buckets rows before after job mine t made legal wrote reply_is =
-    subst (λ H. IsWritten form buckets rows H t) (sym made.are)
-    (committed_end form buckets rows (mine ++ before) mine t (phase mine) reply_is.ended
-    (writer_wrote work form buckets rows before job mine made.first made.all wrote (subst (IsLegal work (fresh form.table buckets)) made.are legal)))
+pub batch_written : (work : Work) (form : BlockForm) (buckets : ℕ) (batch : List Write) (before after : History) (job : Job) (mine : List Entry) (t : ℕ) → IsMadeBy job before after mine → IsLegal work (fresh form.table buckets) after
+    → WritesBatch form batch mine → IsWriterReply mine (job_reply.Committed t) → IsWritten form buckets batch after t
+batch_written work form buckets batch before after job mine t made legal wrote reply_is =
+    subst (λ H. IsWritten form buckets batch H t) (sym made.are)
+    (committed_end form buckets batch (mine ++ before) mine t (phase mine) reply_is.ended
+    (writer_wrote work form buckets batch before job mine made.first made.all wrote (subst (IsLegal work (fresh form.table buckets)) made.are legal)))
 
--- ---- where all rows lie in one group
+-- of rows or keys that are committed none was refused
+pub given_written : (work : Work) (form : BlockForm) (buckets : ℕ) (found : Result (List Write) Refusal) (before after : History) (job : Job) (mine : List Entry) (t : ℕ) → IsMadeBy job before after mine
+    → IsLegal work (fresh form.table buckets) after → AnswersBatch form found mine (job_reply.Committed t)
+    → IsOkAnd found (λ writes. WritesGroups writes t (fresh form.table buckets) (writes_of form (fresh form.table buckets) after t))
+given_written work form buckets (Ok writes) before after job mine t made legal answers =
+    (batch_written work form buckets writes before after job mine t made legal answers.wrote answers.answers).wrote
+given_written work form buckets (Err refusal) before after job mine t made legal answers = absurd (refused answers.1)
+  where
+    refused : (job_reply.Committed t ≡ job_reply.BadRow refusal.place refusal.cause) ⊎ (job_reply.Committed t ≡ job_reply.Memory) → ⊥
+    refused (inl e) = cc
+    refused (inr e) = cc
+
+-- ---- where all writes lie in one group
 
 not_both : true ≡ false → ⊥
 not_both e = cc
@@ -271,25 +284,25 @@ asked_each (asked ∷ slots) g =
     ∙ ap (λ b. b || list_any (is_at g) (flat_map each_slot slots)) (any_each g asked.partition asked.slots)
     ∙ ap (λ b. (bytes_eq asked.partition g.partition && list_any (λ slot. has_slot g slot) asked.slots) || b) (asked_each slots g)
 
-rows_each : (rows : List Row) (g : GroupRef) → list_any (is_at g) (map row_slot rows) ≡ list_any (is_in_group g) rows
-rows_each [] g = refl
-rows_each (row ∷ rows) g = ap (λ b. is_at g (row_slot row) || b) (rows_each rows g) ∙ ap (λ b. b || list_any (is_in_group g) rows) (along (bytes_eq row.partition g.partition) _ _)
+writes_each : (batch : List Write) (g : GroupRef) → list_any (is_at g) (map write_slot batch) ≡ list_any (is_in_group g) batch
+writes_each [] g = refl
+writes_each (w ∷ batch) g = ap (λ b. is_at g (write_slot w) || b) (writes_each batch g) ∙ ap (λ b. b || list_any (is_in_group g) batch) (along (bytes_eq (partition_of w) g.partition) _ _)
   where
     along : (a b c : Bool) → (a && (b && c)) ≡ ((a && b) && c)
     along true b c = refl
     along false b c = refl
 
--- the groups that are asked for are those that a row lies in
-asked_rows : (rows : List Row) (slots : List PartitionSlots) (g : GroupRef) → AreSlotsOf rows slots → is_asked slots g ≡ list_any (is_in_group g) rows
-asked_rows rows slots g asked = sym (asked_each slots g) ∙ ap (list_any (is_at g)) asked ∙ rows_each rows g
+-- the groups that are asked for are those that a write lies in
+asked_writes : (batch : List Write) (slots : List PartitionSlots) (g : GroupRef) → AreSlotsOf batch slots → is_asked slots g ≡ list_any (is_in_group g) batch
+asked_writes batch slots g asked = sym (asked_each slots g) ∙ ap (list_any (is_at g)) asked ∙ writes_each batch g
 
-some_row : (A : Table) (g h : GroupRef) (rows : List Row) → IsBuckets A.buckets → is_live A g ≡ true → is_live A h ≡ true → AllByRecursion (λ row. is_in_group g row ≡ true) rows
-    → list_any (is_in_group h) rows ≡ true → h ≡ g
-some_row A g h [] fit live_g live_h all any = cc
-some_row A g h (row ∷ rows) fit live_g live_h all any = by (is_in_group h row) refl any (some_row A g h rows fit live_g live_h all.1)
+some_write : (A : Table) (g h : GroupRef) (batch : List Write) → IsBuckets A.buckets → is_live A g ≡ true → is_live A h ≡ true → AllByRecursion (λ w. is_in_group g w ≡ true) batch
+    → list_any (is_in_group h) batch ≡ true → h ≡ g
+some_write A g h [] fit live_g live_h all any = cc
+some_write A g h (w ∷ batch) fit live_g live_h all any = by (is_in_group h w) refl any (some_write A g h batch fit live_g live_h all.1)
   where
-    by : (b : Bool) → is_in_group h row ≡ b → (b || list_any (is_in_group h) rows) ≡ true → (list_any (is_in_group h) rows ≡ true → h ≡ g) → h ≡ g
-    by true here any later = one_live A h g (key_of_row row) fit live_h live_g here all.0
+    by : (b : Bool) → is_in_group h w ≡ b → (b || list_any (is_in_group h) batch) ≡ true → (list_any (is_in_group h) batch ≡ true → h ≡ g) → h ≡ g
+    by true here any later = one_live A h g (key_of w) fit live_h live_g here all.0
     by false other any later = later any
 
 single : (gs : List GroupRef) (g : GroupRef) → ((h : GroupRef) → is_among gs h ≡ is_same_group h g) → IsStrictlySortedBy group_cmp gs → gs ≡ g ∷ []
@@ -307,17 +320,17 @@ single (x ∷ (y ∷ rest)) g are sorted =
     not_less : (g : GroupRef) → group_cmp g g ≡ Less → ⊥
     not_less g less = not_both (sym (itself_group g) ∙ sym (same_group g g) ∙ ap is_eq less)
 
-no_puts : (t : ℕ) (gs : List GroupRef) → flat_map (λ group. map Put (rows_to t group [])) gs ≡ []
-no_puts t [] = refl
-no_puts t (g ∷ gs) = no_puts t gs
+none_in : (t : ℕ) (gs : List GroupRef) → flat_map (λ group. batch_in t group []) gs ≡ []
+none_in t [] = refl
+none_in t (g ∷ gs) = none_in t gs
 
-all_in_one : (A : Table) (rows : List Row) (t : ℕ) (g : GroupRef) (writes : List Write) → IsBuckets A.buckets → is_live A g ≡ true → AllByRecursion (λ row. is_in_group g row ≡ true) rows
-    → WritesGroups rows t A writes → writes ≡ map Put (rows_from t 0 rows)
-all_in_one A [] t g writes fit live all wrote = wrote.are ∙ no_puts t wrote.groups
-all_in_one A (row ∷ rows) t g writes fit live all wrote =
+all_in_one : (A : Table) (batch : List Write) (t : ℕ) (g : GroupRef) (writes : List Write) → IsBuckets A.buckets → is_live A g ≡ true → AllByRecursion (λ w. is_in_group g w ≡ true) batch
+    → WritesGroups batch t A writes → writes ≡ writes_from t 0 batch
+all_in_one A [] t g writes fit live all wrote = wrote.are ∙ none_in t wrote.groups
+all_in_one A (w ∷ batch) t g writes fit live all wrote =
     let groups = single wrote.groups g (λ h. from_both _ _ (to h) (from h)) wrote.live.order in
-    wrote.are ∙ ap (λ gs. flat_map (λ group. map Put (rows_to t group (row ∷ rows))) gs) groups ∙ append-nil (map Put (rows_to t g (row ∷ rows)))
-    ∙ ap (map Put) (all_go_there t 0 g (row ∷ rows) all)
+    wrote.are ∙ ap (λ gs. flat_map (λ group. batch_in t group (w ∷ batch)) gs) groups ∙ append-nil (batch_in t g (w ∷ batch))
+    ∙ all_go_there t 0 g (w ∷ batch) all
   where
     both : (a b : Bool) → (a && b) ≡ true → (a ≡ true) × (b ≡ true)
     both true b h = (refl, h)
@@ -326,18 +339,18 @@ all_in_one A (row ∷ rows) t g writes fit live all wrote =
     to : (h : GroupRef) → is_among wrote.groups h ≡ true → is_same_group h g ≡ true
     to h among =
         let tests = both (is_live A h) (is_asked wrote.slots h) (sym (wrote.live.are h) ∙ among) in
-        let same = some_row A g h (row ∷ rows) fit live tests.0 all (sym (asked_rows (row ∷ rows) wrote.slots h wrote.asked) ∙ tests.1) in
+        let same = some_write A g h (w ∷ batch) fit live tests.0 all (sym (asked_writes (w ∷ batch) wrote.slots h wrote.asked) ∙ tests.1) in
         ap (λ x. is_same_group x g) same ∙ same-itself g
 
     from : (h : GroupRef) → is_same_group h g ≡ true → is_among wrote.groups h ≡ true
     from h same =
         let is = same-is h g same in
         wrote.live.are h ∙ ap (λ x. is_live A x && is_asked wrote.slots x) is ∙ ap (λ b. b && is_asked wrote.slots g) live
-        ∙ asked_rows (row ∷ rows) wrote.slots g wrote.asked ∙ ap (λ b. b || list_any (is_in_group g) rows) all.0
+        ∙ asked_writes (w ∷ batch) wrote.slots g wrote.asked ∙ ap (λ b. b || list_any (is_in_group g) batch) all.0
 
-pub whole_batch : (work : Work) (form : BlockForm) (buckets : ℕ) (rows : List Row) (before after : History) (job : Job) (mine : List Entry) (t : ℕ) (group : GroupRef) → IsBuckets buckets
-    → IsMadeBy job before after mine → IsLegal work (fresh form.table buckets) after → WritesBatch form rows mine → IsWriterReply mine (job_reply.Committed t)
-    → is_live (fresh form.table buckets) group ≡ true → AllByRecursion (λ row. is_in_group group row ≡ true) rows
-    → writes_of form (fresh form.table buckets) after t ≡ map Put (rows_from t 0 rows)
-whole_batch work form buckets rows before after job mine t group fit made legal wrote reply_is live all =
-    all_in_one (fresh form.table buckets) rows t group _ fit live all (batch_written work form buckets rows before after job mine t made legal wrote reply_is).wrote
+pub whole_batch : (work : Work) (form : BlockForm) (buckets : ℕ) (batch : List Write) (before after : History) (job : Job) (mine : List Entry) (t : ℕ) (group : GroupRef) → IsBuckets buckets
+    → IsMadeBy job before after mine → IsLegal work (fresh form.table buckets) after → WritesBatch form batch mine → IsWriterReply mine (job_reply.Committed t)
+    → is_live (fresh form.table buckets) group ≡ true → AllByRecursion (λ w. is_in_group group w ≡ true) batch
+    → writes_of form (fresh form.table buckets) after t ≡ writes_from t 0 batch
+whole_batch work form buckets batch before after job mine t group fit made legal wrote reply_is live all =
+    all_in_one (fresh form.table buckets) batch t group _ fit live all (batch_written work form buckets batch before after job mine t made legal wrote reply_is).wrote

@@ -19,10 +19,8 @@ use Rattle.key_index.specs.Tiling.{IsBuckets, groups_at, has_slot, is_among, is_
 use Rattle.key_index.proofs.FirstTiles.{among-one, first-tiling, same-is, same-itself}
 use Rattle.payload_merge.specs.Fold.{table_after_all}
 use Rattle.payload_merge.specs.Laws.{writes_to}
-use Rattle.payload_merge.specs.Payload.{Key, key_cmp, key_of_row}
-use Rattle.payload_merge.specs.declared.row.Row.{Row}
+use Rattle.payload_merge.specs.Payload.{Key, key_cmp, key_of}
 use Rattle.payload_merge.specs.declared.row.Write.{Write}
-use Rattle.payload_merge.specs.declared.row.Write.TheVariants.{Put}
 use Rattle.payload_merge.specs.Fold.{row_after_all}
 use Rattle.payload_merge.proofs.Keys.{same_key}
 use Rattle.payload_merge.proofs.Tables.{get-table_after_all, same_table}
@@ -35,13 +33,13 @@ use Rattle.table_history.specs.Targets.{AreLive, group_cmp, is_live, is_target, 
 use Rattle.table_history.specs.declared.log_file.LogFile.{LogFile}
 use Rattle.table_images.proofs.WhereTo.{itself_group, itself_target, one_target}
 use Rattle.table_query.specs.GroupReading as query
-use Rattle.upsert_writer.specs.BatchRows.{is_in_group}
+use Rattle.upsert_writer.specs.BatchWrites.{is_in_group}
 use Rattle.upsert_writer.specs.Blocks.{BlockForm}
 use Rattle.table_answers.specs.InstantWrites.{block_writes}
 use Rattle.table_answers.proofs.LiveSlices.{IsOwn}
 use Rattle.table_answers.proofs.LogTexts.{AreTexts, IsChained}
 use Rattle.table_answers.proofs.Placed.{PlacedBlock, chain, chain_is_placed, gone_to, joined, placed}
-use Rattle.table_answers.proofs.RowBlocks.{AllRowBlocks, IsRowBlock}
+use Rattle.table_answers.proofs.WriteBlocks.{AllWriteBlocks, IsWriteBlock}
 use Rattle.table_answers.proofs.Writes.{counted}
 
 both : (a b : Bool) → (a && b) ≡ true → (a ≡ true) × (b ≡ true)
@@ -110,26 +108,26 @@ module _ (form : BlockForm) (times : List ℕ) (key : Key) where
   abbrev found : PlacedBlock → List Write
   found b = writes_to key (counted form times b)
 
-  rows_none : (g : GroupRef) (rows : List Row) → AllByRecursion (λ row. is_in_group g row ≡ true) rows → key_in g key ≡ false → writes_to key (map Put rows) ≡ []
-  rows_none g [] own other = refl
-  rows_none g (row ∷ rows) own other =
-      ap (λ b. cond b (Put row ∷ writes_to key (map Put rows)) (writes_to key (map Put rows)))
-      (never (eq_by_cmp key_cmp key (key_of_row row)) (λ same. not_both (sym own.0 ∙ ap (key_in g) (sym (same_key key (key_of_row row) same)) ∙ other)))
-      ∙ rows_none g rows own.1 other
+  writes_none : (g : GroupRef) (ws : List Write) → AllByRecursion (λ w. is_in_group g w ≡ true) ws → key_in g key ≡ false → writes_to key ws ≡ []
+  writes_none g [] own other = refl
+  writes_none g (w ∷ ws) own other =
+      ap (λ b. cond b (w ∷ writes_to key ws) (writes_to key ws))
+      (never (eq_by_cmp key_cmp key (key_of w)) (λ same. not_both (sym own.0 ∙ ap (key_in g) (sym (same_key key (key_of w) same)) ∙ other)))
+      ∙ writes_none g ws own.1 other
 
-  block_none : (s : Target) (b : PlacedBlock) → IsRowBlock form s b → key_in s.group key ≡ false → found b ≡ []
-  block_none s b row other =
-      ap (λ writes. writes_to key (cond (query.is_among times b.t) writes [])) (ap (λ r. block_writes form (Some r) b.bytes) row.to ∙ row.writes) ∙ by (query.is_among times b.t)
+  block_none : (s : Target) (b : PlacedBlock) → IsWriteBlock form s b → key_in s.group key ≡ false → found b ≡ []
+  block_none s b has other =
+      ap (λ writes. writes_to key (cond (query.is_among times b.t) writes [])) (ap (λ r. block_writes form (Some r) b.bytes) has.to ∙ has.writes) ∙ by (query.is_among times b.t)
     where
-      by : (c : Bool) → writes_to key (cond c (map Put row.rows) []) ≡ []
-      by true = rows_none s.group row.rows row.own other
+      by : (c : Bool) → writes_to key (cond c has.wrote []) ≡ []
+      by true = writes_none s.group has.wrote has.own other
       by false = refl
 
-  blocks_none : (bs : List PlacedBlock) → AllRowBlocks form bs → AllByRecursion (λ b. key_in b.to.group key ≡ false) bs → flat_map found bs ≡ []
+  blocks_none : (bs : List PlacedBlock) → AllWriteBlocks form bs → AllByRecursion (λ b. key_in b.to.group key ≡ false) bs → flat_map found bs ≡ []
   blocks_none [] rows others = refl
   blocks_none (b ∷ bs) rows others = ap (λ ws. ws ++ flat_map found bs) (block_none b.to b rows.0 others.0) ∙ blocks_none bs rows.1 others.1
 
-  gone_none : (s : Target) (bs : List PlacedBlock) → AllRowBlocks form bs → key_in s.group key ≡ false → flat_map found (gone_to s bs) ≡ []
+  gone_none : (s : Target) (bs : List PlacedBlock) → AllWriteBlocks form bs → key_in s.group key ≡ false → flat_map found (gone_to s bs) ≡ []
   gone_none s [] rows other = refl
   gone_none s (b ∷ bs) rows other = by (is_target b.to s) refl (gone_none s bs rows.1 other)
     where
@@ -137,7 +135,7 @@ module _ (form : BlockForm) (times : List ℕ) (key : Key) where
       by true same rest = ap (λ ws. ws ++ flat_map found (gone_to s bs)) (block_none b.to b rows.0 (ap (λ (r : Target). key_in r.group key) (one_target b.to s same) ∙ other)) ∙ rest
       by false apart rest = rest
 
-  module _ (A : Table) (fit : IsBuckets A.buckets) (bs : List PlacedBlock) (rows : AllRowBlocks form bs) where
+  module _ (A : Table) (fit : IsBuckets A.buckets) (bs : List PlacedBlock) (rows : AllWriteBlocks form bs) where
     abbrev by_group : List GroupRef → List Write
     by_group gs = flat_map (λ g. flat_map found (gone_to (target_of_group g) bs)) gs
 
@@ -178,7 +176,7 @@ module _ (form : BlockForm) (times : List ℕ) (key : Key) where
             ∙ later (or_rest (is_same_group g h) (is_among gs g) other among)
 
   -- in the order in which the blocks came
-  in_one : (A : Table) (fit : IsBuckets A.buckets) (g : GroupRef) (bs : List PlacedBlock) → AllRowBlocks form bs → AllByRecursion (λ b. IsOwn A b.to) bs → is_live A g ≡ true → key_in g key ≡ true
+  in_one : (A : Table) (fit : IsBuckets A.buckets) (g : GroupRef) (bs : List PlacedBlock) → AllWriteBlocks form bs → AllByRecursion (λ b. IsOwn A b.to) bs → is_live A g ≡ true → key_in g key ≡ true
       → flat_map found bs ≡ flat_map found (gone_to (target_of_group g) bs)
   in_one A fit g [] rows own live here = refl
   in_one A fit g (b ∷ bs) rows own live here = by (is_target b.to (target_of_group g)) refl (in_one A fit g bs rows.1 own.1 live here)
@@ -219,7 +217,7 @@ of_among P (h ∷ gs) g all among = by (is_same_group g h) refl (λ rest. of_amo
 
 -- ---- the tables that they leave
 
-pub groups_fold : (form : BlockForm) (times : List ℕ) (A : Table) (bs : List PlacedBlock) (gs : List GroupRef) → IsBuckets A.buckets → AllRowBlocks form bs → AllByRecursion (λ b. IsOwn A b.to) bs
+pub groups_fold : (form : BlockForm) (times : List ℕ) (A : Table) (bs : List PlacedBlock) (gs : List GroupRef) → IsBuckets A.buckets → AllWriteBlocks form bs → AllByRecursion (λ b. IsOwn A b.to) bs
     → AllByRecursion (λ g. is_live A g ≡ true) gs → IsStrictlySortedBy group_cmp gs → AllByRecursion (λ b. is_among gs b.to.group ≡ true) bs
     → table_after_all empty (flat_map (λ g. flat_map (counted form times) (gone_to (target_of_group g) bs)) gs) ≡ table_after_all empty (flat_map (counted form times) bs)
 groups_fold form times A bs gs fit rows own lives sorted seen =

@@ -7,7 +7,7 @@ pub mod LiveSlices
 pub mod Placed
 pub mod FilesRead
 pub mod GroupFolds
-pub mod RowBlocks
+pub mod WriteBlocks
 pub mod Scans
 pub mod SnapshotAnswers
 pub mod Times

@@ -45,7 +45,7 @@ use Rattle.table_answers.proofs.LogTexts.{IsChained, logs_have_blocks}
 use Rattle.table_answers.proofs.GroupFolds.{groups_fold, placed_seen}
 use Rattle.table_answers.proofs.LiveSlices.{IsOwn, appending, goes_there, instants_plain}
 use Rattle.table_answers.proofs.Placed.{placed, placed_at, placed_by}
-use Rattle.table_answers.proofs.RowBlocks.{AllRowBlocks, all_row_blocks}
+use Rattle.table_answers.proofs.WriteBlocks.{AllWriteBlocks, all_write_blocks}
 use Rattle.table_answers.proofs.Times.{falls_filtered, fold_is, rises_reversed}
 use Rattle.table_answers.proofs.Turns.{Falls, completed_fall}
 use Rattle.table_answers.proofs.ViewWrites.{groups_written, view_long, with_parts, writes_by_group}
@@ -105,8 +105,8 @@ module _ (form : BlockForm) (buckets : ℕ) (fit : IsBuckets buckets) (work : Wo
   chained : (s : Target) → IsChained A before s
   chained s = logs_have_blocks work form.table buckets before s legal names
 
-  rows : AllRowBlocks form (placed A before)
-  rows = all_row_blocks form work A before (fresh_opened form.table buckets) legal carries
+  rows : AllWriteBlocks form (placed A before)
+  rows = all_write_blocks form work A before (fresh_opened form.table buckets) legal carries
 
   abbrev times : ℕ → List ℕ
   times t = filter (λ u. nat_le u t) (completed_instants A before)

@@ -21,8 +21,8 @@ use Rattle.payload_merge.specs.declared.row.Write.{Write}
 use Rattle.upsert_writer.specs.Blocks.{BlockForm}
 use Rattle.table_answers.proofs.LogTexts.{AreTexts, IsChained, IsText}
 use Rattle.table_answers.proofs.Placed.{PlacedBlock, chain, chain_is_placed, gone_to, joined, placed}
-use Rattle.table_answers.proofs.RowBlocks.{AllRowBlocks, IsRowBlock}
-use Rattle.table_answers.proofs.Scans.{AllLogRows, logs_read, logs_written, part_logs}
+use Rattle.table_answers.proofs.WriteBlocks.{AllWriteBlocks, IsWriteBlock}
+use Rattle.table_answers.proofs.Scans.{AllLogBlocks, logs_read, logs_written, part_logs}
 use Rattle.table_answers.proofs.Writes.{counted}
 
 -- ---- the other way round
@@ -50,9 +50,9 @@ back_of : {X : Type 0} (P : X → Type 0) (xs ys : List X) → AllByRecursion P 
 back_of P [] ys all = all
 back_of P (x ∷ xs) ys all = back_of P xs ys all.1
 
-all_logs : (form : BlockForm) (s : Target) (bss : List (List PlacedBlock)) → AllByRecursion (IsRowBlock form s) (joined bss) → AllLogRows form s bss
+all_logs : (form : BlockForm) (s : Target) (bss : List (List PlacedBlock)) → AllByRecursion (IsWriteBlock form s) (joined bss) → AllLogBlocks form s bss
 all_logs form s [] all = tt
-all_logs form s (bs ∷ rest) all = (front_of (IsRowBlock form s) bs (joined rest) all, all_logs form s rest (back_of (IsRowBlock form s) bs (joined rest) all))
+all_logs form s (bs ∷ rest) all = (front_of (IsWriteBlock form s) bs (joined rest) all, all_logs form s rest (back_of (IsWriteBlock form s) bs (joined rest) all))
 
 -- ---- places
 
@@ -85,15 +85,15 @@ parts_long A s fs (log ∷ logs) (bs ∷ rest) texts zero part is =
     subst (λ (p : Part). length (bytes_in fs p.name) ≡ p.length) same (ap length texts.0.bytes ∙ sym texts.0.long)
 parts_long A s fs (log ∷ logs) (bs ∷ rest) texts (suc k) part is = parts_long A s fs logs rest texts.1 k part is
 
-gone_rows : (form : BlockForm) (s : Target) (bs : List PlacedBlock) → AllRowBlocks form bs → AllByRecursion (IsRowBlock form s) (gone_to s bs)
+gone_rows : (form : BlockForm) (s : Target) (bs : List PlacedBlock) → AllWriteBlocks form bs → AllByRecursion (IsWriteBlock form s) (gone_to s bs)
 gone_rows form s [] rows = tt
 gone_rows form s (b ∷ bs) rows = by (is_target b.to s) refl (gone_rows form s bs rows.1)
   where
-    by : (c : Bool) → is_target b.to s ≡ c → AllByRecursion (IsRowBlock form s) (gone_to s bs) → AllByRecursion (IsRowBlock form s) (cond c (b ∷ gone_to s bs) (gone_to s bs))
-    by true same rest = (subst (λ r. IsRowBlock form r b) (one_target b.to s same) rows.0, rest)
+    by : (c : Bool) → is_target b.to s ≡ c → AllByRecursion (IsWriteBlock form s) (gone_to s bs) → AllByRecursion (IsWriteBlock form s) (cond c (b ∷ gone_to s bs) (gone_to s bs))
+    by true same rest = (subst (λ r. IsWriteBlock form r b) (one_target b.to s same) rows.0, rest)
     by false other rest = rest
 
-module _ (form : BlockForm) (A : Table) (H : History) (chained : (s : Target) → IsChained A H s) (rows : AllRowBlocks form (placed A H)) where
+module _ (form : BlockForm) (A : Table) (H : History) (chained : (s : Target) → IsChained A H s) (rows : AllWriteBlocks form (placed A H)) where
   abbrev logs_to : Target → List LogFile
   logs_to s = reverse (logs_of A H s)
 
@@ -103,8 +103,8 @@ module _ (form : BlockForm) (A : Table) (H : History) (chained : (s : Target) �
   texts : (s : Target) → AreTexts A s (files_of A H) (logs_to s) (blocks_to s)
   texts s = texts_reversed A s (files_of A H) (logs_of A H s) (chain A H s) (chained s).texts
 
-  all : (s : Target) → AllLogRows form s (blocks_to s)
-  all s = all_logs form s (blocks_to s) (subst (AllByRecursion (IsRowBlock form s)) (sym (chain_is_placed A H s)) (gone_rows form s (placed A H) rows))
+  all : (s : Target) → AllLogBlocks form s (blocks_to s)
+  all s = all_logs form s (blocks_to s) (subst (AllByRecursion (IsWriteBlock form s)) (sym (chain_is_placed A H s)) (gone_rows form s (placed A H) rows))
 
   abbrev parts_to : Target → List Part
   parts_to s = map (part_of A s) (logs_to s)

@@ -1,11 +1,11 @@
 // Laws of answers, over the definitions of specs/. The functions do nothing: their clauses are the laws.
-ghost use Rattle.std.specs.Prelude.{◌≡◌, ℕ, true, List, [], ◌++◌, map, Option};
+ghost use Rattle.std.specs.Prelude.{◌≡◌, ℕ, true, List, [], ◌++◌, Option, IsOkAnd};
 ghost use Rattle.std.specs.List.{AllByRecursion};
 ghost use Rattle.hudi_base.specs.Files.{FileMap};
 ghost use Rattle.hudi_base.specs.declared.file_group.GroupRef.{GroupRef};
 ghost use Rattle.key_index.specs.Tiling.{IsBuckets};
-ghost use Rattle.payload_merge.specs.declared.row.Row.{Row};
-ghost use Rattle.payload_merge.specs.declared.row.Write.TheVariants.{Put};
+ghost use Rattle.payload_merge.specs.Fold.{writes_from};
+ghost use Rattle.payload_merge.specs.declared.row.Write.{Write};
 ghost use Rattle.table_board.specs.HonestRuns.{IsUndamaged};
 ghost use Rattle.table_core.specs.declared.job_reply.JobReply.{JobReply};
 ghost use Rattle.table_core.specs.declared.job_reply.JobReply.TheVariants.{Committed};
@@ -21,9 +21,12 @@ ghost use Rattle.table_images.specs.Runs.{IsRun, Run, history_of};
 ghost use Rattle.table_jobs.specs.Replies.{IsWriterReply};
 ghost use Rattle.table_query.specs.Answers.{IsQueryReply};
 ghost use Rattle.table_query.specs.ReadBytes.{PinsAt};
-ghost use Rattle.upsert_writer.specs.BatchRows.{is_in_group, rows_from};
+ghost use Rattle.upsert_writer.specs.Answers.{AnswersBatch};
+ghost use Rattle.upsert_writer.specs.BatchWrites.{is_in_group};
+ghost use Rattle.upsert_writer.specs.Batches.{NewWrites, batch_writes};
 ghost use Rattle.upsert_writer.specs.Blocks.{BlockForm};
 ghost use Rattle.upsert_writer.specs.WriterSteps.{WritesBatch};
+ghost use Rattle.upsert_writer.specs.declared.batch.Batch.{Batch};
 ghost use Rattle.table_answers.specs.InTurn.{CarriesForm, IsInTurn, IsMadeBy};
 ghost use Rattle.table_answers.specs.InstantWrites.{WritesGroups, writes_of};
 ghost use Rattle.table_answers.specs.NamedRuns.{AllNamesFit};
@@ -38,15 +41,15 @@ pub fn turns_go_on()
         → IsInTurn before → IsMadeBy job before after mine → IsInTurn after }
 {}
 
-/// The appends of a writer carry blocks of its rows.
-pub fn writers_carry_rows()
-    ensures { (form : BlockForm) (rows : List Row) (before after : History) (job : Job) (mine : List Entry)
-        → CarriesForm form before → IsMadeBy job before after mine → WritesBatch form rows mine
+/// The appends of a writer carry blocks of its writes.
+pub fn writers_carry_writes()
+    ensures { (form : BlockForm) (batch : List Write) (before after : History) (job : Job) (mine : List Entry)
+        → CarriesForm form before → IsMadeBy job before after mine → WritesBatch form batch mine
         → CarriesForm form after }
 {}
 
 /// A query appends nothing.
-pub fn queries_carry_rows()
+pub fn queries_carry_writes()
     ensures { (form : BlockForm) (at : Option ℕ) (before after : History) (job : Job) (mine : List Entry)
         → CarriesForm form before → IsMadeBy job before after mine → PinsAt at mine → CarriesForm form after }
 {}
@@ -75,25 +78,32 @@ pub fn snapshots_are_folds<W: Work>()
         → AnswersSnapshot form (fresh form.table buckets) before at given }
 {}
 
-/// What a committed writer's instant wrote: group by group the puts of those rows of its batch that lie in the group,
-/// in their order, with the instant and their places. Where all rows lie in one live group, these are the puts of them
-/// all. The instant is completed then.
+/// What a committed writer's instant wrote: group by group those writes of its batch that lie in the group, in their
+/// order, rows with the instant and their places. Where all lie in one live group, it is the whole batch. The instant is
+/// completed then. Of rows to put or keys to delete that a writer answers with `Committed` none was refused, and what its
+/// instant wrote is their puts or their deletes.
 pub fn committed_batches<W: Work>()
-    ensures groups { (form : BlockForm) (buckets : ℕ) (rows : List Row) (before after : History) (job : Job)
+    ensures groups { (form : BlockForm) (buckets : ℕ) (batch : List Write) (before after : History) (job : Job)
         (mine : List Entry) (t : ℕ) → IsMadeBy job before after mine
-        → IsLegal (work_of W.asks W.holds) (fresh form.table buckets) after → WritesBatch form rows mine
+        → IsLegal (work_of W.asks W.holds) (fresh form.table buckets) after → WritesBatch form batch mine
         → IsWriterReply mine (Committed t)
-        → WritesGroups rows t (fresh form.table buckets) (writes_of form (fresh form.table buckets) after t) }
-    ensures wrote { (form : BlockForm) (buckets : ℕ) (rows : List Row) (before after : History) (job : Job)
+        → WritesGroups batch t (fresh form.table buckets) (writes_of form (fresh form.table buckets) after t) }
+    ensures wrote { (form : BlockForm) (buckets : ℕ) (batch : List Write) (before after : History) (job : Job)
         (mine : List Entry) (t : ℕ) (group : GroupRef) → IsBuckets buckets → IsMadeBy job before after mine
-        → IsLegal (work_of W.asks W.holds) (fresh form.table buckets) after → WritesBatch form rows mine
+        → IsLegal (work_of W.asks W.holds) (fresh form.table buckets) after → WritesBatch form batch mine
         → IsWriterReply mine (Committed t) → is_live (fresh form.table buckets) group ≡ true
-        → AllByRecursion (λ row. is_in_group group row ≡ true) rows
-        → writes_of form (fresh form.table buckets) after t ≡ map Put (rows_from t 0 rows) }
-    ensures completed { (form : BlockForm) (buckets : ℕ) (rows : List Row) (before after : History) (job : Job)
+        → AllByRecursion (λ w. is_in_group group w ≡ true) batch
+        → writes_of form (fresh form.table buckets) after t ≡ writes_from t 0 batch }
+    ensures completed { (form : BlockForm) (buckets : ℕ) (batch : List Write) (before after : History) (job : Job)
         (mine : List Entry) (t : ℕ) → IsMadeBy job before after mine
-        → IsLegal (work_of W.asks W.holds) (fresh form.table buckets) after → WritesBatch form rows mine
+        → IsLegal (work_of W.asks W.holds) (fresh form.table buckets) after → WritesBatch form batch mine
         → IsWriterReply mine (Committed t) → is_completed (fresh form.table buckets) after t ≡ true }
+    ensures given { (form : BlockForm) (buckets : ℕ) (new : NewWrites) (batch : Batch) (before after : History) (job : Job)
+        (mine : List Entry) (t : ℕ) → IsMadeBy job before after mine
+        → IsLegal (work_of W.asks W.holds) (fresh form.table buckets) after
+        → AnswersBatch form (batch_writes new batch) mine (Committed t)
+        → IsOkAnd (batch_writes new batch) (λ writes.
+        WritesGroups writes t (fresh form.table buckets) (writes_of form (fresh form.table buckets) after t)) }
 {}
 
 /// A completed instant stays completed, and its writes stay as they are, whatever comes after.

@@ -21,5 +21,5 @@ mod viewing;
 mod written;
 
 pub use control::Control;
-pub use job_reply::JobReply;
+pub use job_reply::{JobReply, RowCause};
 pub use marks::mark;

@@ -1,2 +1,3 @@
 pub mod IdLengths
+pub mod Paths
 pub mod Seen

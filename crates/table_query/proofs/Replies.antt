@@ -54,6 +54,7 @@ made reading view texts bytes given long same makes = by given makes
     by : (r : JobReply) → MakesReply reading view (text_at texts) r → IsMadeOf reading view bytes r
     by job.Memory m = tt
     by (job.Committed t) m = (reads, m ∙ ap (reply_with view.t) answers)
+    by (job.BadRow number why) m = (reads, m ∙ ap (reply_with view.t) answers)
     by (job.Rows t rows) m = (reads, m ∙ ap (reply_with view.t) answers)
     by (job.NotCompleted t) m = (reads, m ∙ ap (reply_with view.t) answers)
     by job.TimeOver m = (reads, m ∙ ap (reply_with view.t) answers)

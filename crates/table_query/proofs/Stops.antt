@@ -11,6 +11,7 @@ pub error_on : {A B : Type 0} (reply : JobReply) (part : Result A Damage) (whole
 error_on (job.Damaged name cause place) part whole stops is = stops _ is
 error_on job.Memory part whole stops is = is
 error_on (job.Committed t) part whole stops is = absurd is
+error_on (job.BadRow number why) part whole stops is = absurd is
 error_on (job.Rows t rows) part whole stops is = absurd is
 error_on (job.NotCompleted t) part whole stops is = absurd is
 error_on job.TimeOver part whole stops is = absurd is

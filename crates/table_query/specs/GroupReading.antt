@@ -1,6 +1,7 @@
 -- What the bytes of a view's files hold: the writes of its completed instants, or the first part that has no reading.
 use Rattle.std.specs.Prelude.{ℕ, ◌+◌, ◌==◌, ◌&&◌, not, Bool, true, false, if◌then◌else◌, List, [], ◌∷◌, ◌++◌, length, Result, Ok, Err}
 use Rattle.std.specs.List.{flat_map, list_any}
+use Rattle.block_contents.specs.Deletes.{deletes_in}
 use Rattle.hudi_base.specs.declared.file_group.GroupRef.{GroupRef}
 use Rattle.log_block.specs.declared.block.Block.{Block}
 use Rattle.log_block.specs.declared.block.Block.TheVariants.{Data, Delete, Rollback}
@@ -15,7 +16,8 @@ use Rattle.table_history.specs.declared.view.Part.{Part}
 use Rattle.table_jobs.specs.Places.{place_in}
 use Rattle.table_query.specs.declared.logs.PartLog.{PartLog}
 
--- how a table's blocks are read: its data contents, and its name, which is in the ids of its groups
+-- how a table's blocks are read: its data contents, and its name, which is in the ids of its groups; deletes are read
+-- alike in all tables
 pub record TableReading : Type 0 where
   pub rows : DataReading
   pub table : List ℕ
@@ -80,10 +82,10 @@ counts completed void (Rollback instant target) = false
 
 -- ---- their writes
 
--- Until deletes can be read, a delete block has no reading.
+-- the puts of a data block, and the deletes of a delete block in the group's partition
 abbrev pub block_writes : TableReading → GroupRef → Block → Result (List Write) ℕ
 block_writes reading group (Data instant schema content) = data_writes reading.rows (place_in reading.table instant group) content
-block_writes reading group (Delete instant content) = Err 0
+block_writes reading group (Delete instant content) = deletes_in group.partition content
 block_writes reading group (Rollback instant target) = Ok []
 
 -- the writes of a block with a number, or the number where it has none

@@ -3,11 +3,13 @@ ghost use Rattle.std.specs.Prelude.{◌≡◌, ◌≤◌, ◌+◌, length, OnOk}
 ghost use Rattle.std.specs.List.{flat_map};
 ghost use Rattle.file_names.specs.FileId.{file_id};
 ghost use Rattle.payload_merge.specs.Fold.{table_after_all};
+ghost use Rattle.payload_merge.specs.RowCodec.{AnswersContent};
 ghost use Rattle.table_query.specs.GroupReading.{block_gives, block_writes, counts, group_writes, in_part, log_writes, logs_writes, view_writes};
 ghost use Rattle.table_query.specs.Parts.{GivesBlock, GivesFold, GivesTable, text_at};
 
 use crate::logs::{PartLog, damaged, logs_of, voided};
 use crate::times::{has_time, set_of};
+use block_contents::delete_writes;
 use hudi_base::{Bytes, GroupRef, InstantTime, Name};
 use log_block::Block;
 use payload_merge::{MergeError, RowError, RowMap, Writes};
@@ -27,6 +29,30 @@ fn fold_all(writes: Writes, rows: &mut RowMap) -> Result<(), MergeError>
     Ok(())
 }
 
+// The writes of a block in a group with this id.
+fn block_writes<K: TableCodec>(
+    alloc: Global,
+    codec: &K,
+    group: &GroupRef,
+    id: &Name,
+    block: &Block,
+) -> Result<Writes, RowError>
+    requires { id.now ≡ file_id (K.table_name codec.now) group.now }
+    ensures { AnswersContent (block_writes (record { rows = K.block_rows codec.now; table = K.table_name codec.now }) group.now block.now) result }
+{
+    match block {
+        Block::Data {
+            instant,
+            content,
+            ..
+        } => codec.block_writes(alloc, *instant, &group.partition, id, content.as_slice()),
+        Block::Delete { content, .. } => {
+            delete_writes(alloc, &group.partition, content.as_slice())
+        }
+        Block::Rollback { .. } => Ok(Writes::new(alloc)),
+    }
+}
+
 // Folds the writes of a block in a group with this id.
 fn fold_block<K: TableCodec>(
     alloc: Global,
@@ -39,26 +65,10 @@ fn fold_block<K: TableCodec>(
     requires { id.now ≡ file_id (K.table_name codec.now) group.now }
     ensures { GivesBlock result (block_writes (record { rows = K.block_rows codec.now; table = K.table_name codec.now }) group.now block.now) rows.old rows.new }
 {
-    match block {
-        Block::Data {
-            instant,
-            content,
-            ..
-        } => {
-            let writes = codec.block_writes(
-                alloc,
-                *instant,
-                &group.partition,
-                id,
-                content.as_slice(),
-            )?;
-            match fold_all(writes, rows) {
-                Ok(()) => Ok(()),
-                Err(_) => Err(RowError::Memory),
-            }
-        }
-        Block::Delete { .. } => Err(RowError::BadContent(0)),
-        Block::Rollback { .. } => Ok(()),
+    let writes = block_writes(alloc, codec, group, id, block)?;
+    match fold_all(writes, rows) {
+        Ok(()) => Ok(()),
+        Err(_) => Err(RowError::Memory),
     }
 }
 

@@ -29,7 +29,7 @@ fn add_all<'a>(lent: Vec<WriteRef<'a>>, writes: &mut Vec<WriteRef<'a>>) -> Optio
     Some(())
 }
 
-// Adds the writes of a block in a group with this id, where they can be lent.
+// Adds the writes of a block in a group with this id, where they can be lent. Deletes are not.
 fn lend_block<'a, K: TableCodec>(
     alloc: Global,
     codec: &K,

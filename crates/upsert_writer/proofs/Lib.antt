@@ -1,6 +1,9 @@
+pub mod KindBlocks
 pub mod Leaving
-pub mod PlacedRows
+pub mod MadeWrites
+pub mod PlacedWrites
+pub mod Refusals
 pub mod Runs
-pub mod TargetRows
+pub mod TargetWrites
 pub mod WholeBatches
 pub mod WriterSteps

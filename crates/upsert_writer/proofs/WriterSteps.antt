@@ -3,34 +3,34 @@ use Rattle.std.proofs.Common.{◌≡◌, ◌<◌, ℕ, List, ◌∷◌, length, 
 use Rattle.std.specs.Prelude.{slice_get, Option, IsSomeAnd}
 use Rattle.std.proofs.lemmas.Option.{slice_get-get_or}
 use Rattle.hudi_base.specs.declared.file_group.Target.{Target}
-use Rattle.payload_merge.specs.declared.row.Row.{Row}
+use Rattle.payload_merge.specs.declared.row.Write.{Write}
 use Rattle.table_history.specs.JobLaw.{Work, Phase, PlacedEntry, Writes, Allows, entries_of}
 use Rattle.table_history.specs.declared.entry.Entry.{Entry}
 use Rattle.table_history.specs.declared.job.Job.{Job}
 use Rattle.table_history.specs.declared.reply.Reply.{Reply}
 use Rattle.table_history.specs.declared.step.Step.{Step}
 use Rattle.table_history.specs.declared.step.Step.TheVariants.{Append}
-use Rattle.upsert_writer.specs.BatchRows.{rows_to}
-use Rattle.upsert_writer.specs.Blocks.{BlockForm, HasRows}
+use Rattle.upsert_writer.specs.BatchWrites.{batch_in}
+use Rattle.upsert_writer.specs.Blocks.{BlockForm, HasWrites}
 use Rattle.upsert_writer.specs.WriterSteps.{IsWriterStep, WritesBatch, targets_given}
 use Rattle.upsert_writer.specs.Writers.{WritesOn}
 
-pub one_step : (form : BlockForm) (rows : List Row) (place : ℕ) (job : Job) (step : Step) (reply : Reply) (mine after : List PlacedEntry)
+pub one_step : (form : BlockForm) (batch : List Write) (place : ℕ) (job : Job) (step : Step) (reply : Reply) (mine after : List PlacedEntry)
     → after ≡ record { place = place; entry = record { job = job; step = step; reply = reply } } ∷ mine
-    → IsWriterStep form rows (targets_given (entries_of mine)) step → WritesBatch form rows (entries_of mine) → WritesBatch form rows (entries_of after)
-one_step form rows place job step reply mine after is one before =
-    let P : List PlacedEntry → Type 0 = λ placed. WritesBatch form rows (entries_of placed) in
+    → IsWriterStep form batch (targets_given (entries_of mine)) step → WritesBatch form batch (entries_of mine) → WritesBatch form batch (entries_of after)
+one_step form batch place job step reply mine after is one before =
+    let P : List PlacedEntry → Type 0 = λ placed. WritesBatch form batch (entries_of placed) in
     subst P (sym is) (one, before)
 
-pub no_step : (form : BlockForm) (rows : List Row) (mine after : List PlacedEntry) → after ≡ mine → WritesBatch form rows (entries_of mine) → WritesBatch form rows (entries_of after)
-no_step form rows mine after is before =
-    let P : List PlacedEntry → Type 0 = λ placed. WritesBatch form rows (entries_of placed) in
+pub no_step : (form : BlockForm) (batch : List Write) (mine after : List PlacedEntry) → after ≡ mine → WritesBatch form batch (entries_of mine) → WritesBatch form batch (entries_of after)
+no_step form batch mine after is before =
+    let P : List PlacedEntry → Type 0 = λ placed. WritesBatch form batch (entries_of placed) in
     subst P (sym is) before
 
--- steps for the same rows
-pub same_batch : (form : BlockForm) (rows batch : List Row) (before after : List Entry) → rows ≡ batch → WritesOn form rows before after → WritesOn form batch before after
-same_batch form rows batch before after same goes =
-    let P : List Row → Type 0 = λ xs. WritesOn form xs before after in
+-- steps for the same writes
+pub same_batch : (form : BlockForm) (ws batch : List Write) (before after : List Entry) → ws ≡ batch → WritesOn form ws before after → WritesOn form batch before after
+same_batch form ws batch before after same goes =
+    let P : List Write → Type 0 = λ xs. WritesOn form xs before after in
     subst P same goes
 
 some_at : (P : Target → Type 0) (targets : List Target) (number : ℕ) (d : Target) → number < length targets → P (get_or targets number d) → IsSomeAnd (slice_get targets number) P
@@ -46,12 +46,12 @@ may_append work job p t targets number target d writes bytes at same within hold
     let P : Phase → Type 0 = λ q. Allows work job q (Append t target writes bytes) in
     subst P (sym at) (refl, same, some_at (λ (x : Target). work.Holds job t x writes bytes) targets number d within holds)
 
-pub is_append : (form : BlockForm) (batch own : List Row) (t : ℕ) (given targets : List Target) (number target : ℕ) (d : Target) (writes : ℕ) (bytes : List ℕ)
-    → given ≡ targets → target ≡ number → number < length targets → own ≡ rows_to t (get_or targets number d).group batch
-    → HasRows form own t (get_or targets number d).group writes bytes → IsWriterStep form batch given (Append t target writes bytes)
+pub is_append : (form : BlockForm) (batch own : List Write) (t : ℕ) (given targets : List Target) (number target : ℕ) (d : Target) (writes : ℕ) (bytes : List ℕ)
+    → given ≡ targets → target ≡ number → number < length targets → own ≡ batch_in t (get_or targets number d).group batch
+    → HasWrites form own t (get_or targets number d).group writes bytes → IsWriterStep form batch given (Append t target writes bytes)
 is_append form batch own t given targets number target d writes bytes same numbered within is block =
     let s : Target = get_or targets number d in
     let P : List Target → Type 0 = λ ts. IsWriterStep form batch ts (Append t target writes bytes) in
     let Q : ℕ → Type 0 = λ n. IsWriterStep form batch targets (Append t n writes bytes) in
-    let R : List Row → Type 0 = λ xs. HasRows form xs t s.group writes bytes in
-    subst P (sym same) (subst Q (sym numbered) (some_at (λ (x : Target). HasRows form (rows_to t x.group batch) t x.group writes bytes) targets number d within (subst R is block)))
+    let R : List Write → Type 0 = λ xs. HasWrites form xs t s.group writes bytes in
+    subst P (sym same) (subst Q (sym numbered) (some_at (λ (x : Target). HasWrites form (batch_in t x.group batch) t x.group writes bytes) targets number d within (subst R is block)))

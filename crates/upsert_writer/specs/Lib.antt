@@ -1,6 +1,10 @@
-pub mod BatchRows
+pub mod Batches
+pub mod BatchFits
+pub mod BatchWrites
 pub mod Slots
 pub mod Blocks
 pub mod WriterSteps
-pub mod TargetRows
+pub mod Answers
+pub mod TargetWrites
 pub mod Writers
+pub mod Making

@@ -1,7 +1,7 @@
 -- How a writer's own entries stand, for the parts of the writer.
 use Rattle.std.specs.Prelude.{◌≡◌, List, [], None}
 use Rattle.hudi_base.specs.declared.file_group.Target.{Target}
-use Rattle.payload_merge.specs.declared.row.Row.{Row}
+use Rattle.payload_merge.specs.declared.row.Write.{Write}
 use Rattle.table_history.specs.JobLaw.{Phase, Writes, Ended, phase}
 use Rattle.table_history.specs.declared.entry.Entry.{Entry}
 use Rattle.table_jobs.specs.Replies.{told}
@@ -24,6 +24,6 @@ pub record IsLeft (before after : List Entry) : Type 0 where
   pub phase : phase after ≡ Ended
   pub told : told after ≡ told before
 
--- a writer of these rows goes on with its steps
-abbrev pub WritesOn : BlockForm → List Row → List Entry → List Entry → Type 0
-WritesOn form rows before after = WritesBatch form rows before → WritesBatch form rows after
+-- a writer of these writes goes on with its steps
+abbrev pub WritesOn : BlockForm → List Write → List Entry → List Entry → Type 0
+WritesOn form batch before after = WritesBatch form batch before → WritesBatch form batch after

@@ -1,22 +1,20 @@
 // What a writer is given.
-ghost use Rattle.std.specs.Prelude.{◌≡◌};
-ghost use Rattle.upsert_writer.specs.BatchRows.{rows_of};
+use hudi_base::{Sequence, Value};
+use table_jobs::DelKeys;
 
-use payload_merge::Rows;
-
-/// The rows of one upsert, in order. What stands in a row for its instant and its place in the batch is passed over:
-/// the writer sets both.
+/// A row of an upsert: a value of the table's schema, or the place of the first field of the schema that it doesn't fit.
 #[derive(Drop)]
-pub enum Batch {
-    Puts(Rows),
+pub enum PutRow {
+    Fits(Value),
+    Mismatch(u32),
 }
 
-impl Batch {
-    // Its rows.
-    pub(crate) fn into_rows(self) -> Rows
-        ensures { result ≡ rows_of self }
-    {
-        let Batch::Puts(rows) = self;
-        rows
-    }
+/// The rows of an upsert, in their order.
+pub type PutRows = Sequence<PutRow>;
+
+/// The rows of one upsert or the keys of one delete, in order.
+#[derive(Drop)]
+pub enum Batch {
+    Puts(PutRows),
+    Dels(DelKeys),
 }

@@ -1,4 +1,10 @@
+use Rattle.std.proofs.Common.{refl, ◌∙◌}
+use Rattle.plain_rows.specs.NewRowLaws.{value_row}
+use Rattle.plain_rows.proofs.NewRows.{fields_row}
 use Rattle.run_cases.proofs.run.run_over.Goals as goal
 
 pub hudi_run_solo-status-requires : goal.hudi_run_solo-status-requires
-hudi_run_solo-status-requires g c = λ row t seq sized time few. record { key_from = sized.key_from; key_to = sized.key_to; body_to = sized.body_to; key_text = sized.key_text; body_text = sized.body_text }
+hudi_run_solo-status-requires g c = λ row sized. (
+  record { key = row.key; rank = row.rank; body = row.body; is = refl; key_text = sized.key_text; body_text = sized.body_text },
+  value_row row.key row.rank row.body ∙ fields_row row.key row.rank row.body sized.key_from sized.key_to sized.body_to,
+)

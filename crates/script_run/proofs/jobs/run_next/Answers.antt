@@ -5,7 +5,7 @@ use Rattle.upsert_writer.specs.Blocks.{BlockForm}
 use Rattle.script_run.specs.Lines.{AnswersLine}
 use Rattle.table_board.specs.Boards.{placed_own}
 use Rattle.script_run.specs.Runs.{job_of}
-use Rattle.script_run.proofs.Batched.{batch_ready}
+use Rattle.script_run.proofs.Batched.{sized_line}
 use Rattle.script_run.proofs.Turns.{none_placed, ran_line}
 use Rattle.script_run.proofs.jobs.run_next.Goals as goal
 
@@ -15,8 +15,8 @@ run_job-requires-clause-new g c =
     ∙ ap (λ j. placed_own j c.args.solo.now.board.entries) c.set_job.ensures.job
     ∙ none_placed (job_of c.args.job.number) c.args.solo.now.board.entries c.requires.below
 
-pub run_job-requires-clause-batch : goal.run_job-requires-clause-batch
-run_job-requires-clause-batch g c = batch_ready (g.K.RowCodec.own_row c.args.codec.now) c.args.job.number c.args.job.line c.requires.own c.requires.sized
+pub run_job-requires-clause-sized : goal.run_job-requires-clause-sized
+run_job-requires-clause-sized g c = sized_line c.args.job.number c.args.job.line c.requires.sized
 
 pub returns-clause-ran : goal.returns-clause-ran
 returns-clause-ran g c =

@@ -7,7 +7,7 @@ use Rattle.upsert_writer.proofs.writer.append.Goals as goal
 pub block_of-requires : goal.block_of-requires
 block_of-requires g c =
     let may = c.requires.may _ (slice_get-get_or c.args.targets.now c.args.number c.index-targets-number.result c.requires.number) in
-    record { own = may.own; placed = may.placed; counted = may.counted }
+    record { of_kind = may.of_kind; counted = may.counted }
 
 pub returns-in_default-clause-wrote : goal.returns-in_default-clause-wrote
 returns-in_default-clause-wrote g c = λ batch is before. c.leave.ensures.wrote _ batch before
@@ -24,7 +24,7 @@ returns-in-Placed-clause-wrote g c = λ batch is before.
     let form : BlockForm = record { reading = g.K.RowCodec.block_rows c.args.codec.now; table = g.K.TableCodec.table_name c.args.codec.now; schema = g.K.TableCodec.schema c.args.codec.now } in
     let same : c.in-Ok-Ok.target ≡ c.args.number = omega (arith, c.in-Ok-Ok.ensures') in
     one_step form batch _ _ _ _ _ _ c.in-Placed.ensures.mine
-    (is_append form batch c.args.own.now c.args.t _ c.args.targets.now c.args.number c.in-Ok-Ok.target c.index-targets-number.result c.in-Ok-Ok.block.writes c.in-Ok-Ok.block.bytes
+    (is_append form batch c.args.own c.args.t _ c.args.targets.now c.args.number c.in-Ok-Ok.target c.index-targets-number.result c.in-Ok-Ok.block.writes c.in-Ok-Ok.block.bytes
     c.requires.so_far.given same c.requires.number
     (is _ (slice_get-get_or c.args.targets.now c.args.number c.index-targets-number.result c.requires.number)) c.in-Ok-Ok.ensures) before
 
@@ -33,7 +33,7 @@ returns-in-Fault-clause-wrote g c = λ batch is before.
     let form : BlockForm = record { reading = g.K.RowCodec.block_rows c.args.codec.now; table = g.K.TableCodec.table_name c.args.codec.now; schema = g.K.TableCodec.schema c.args.codec.now } in
     let same : c.in-Ok-Ok.target ≡ c.args.number = omega (arith, c.in-Ok-Ok.ensures') in
     c.leave-in-Fault.ensures.wrote form batch (one_step form batch _ _ _ _ _ _ c.in-Fault.ensures.mine
-    (is_append form batch c.args.own.now c.args.t _ c.args.targets.now c.args.number c.in-Ok-Ok.target c.index-targets-number.result c.in-Ok-Ok.block.writes c.in-Ok-Ok.block.bytes
+    (is_append form batch c.args.own c.args.t _ c.args.targets.now c.args.number c.in-Ok-Ok.target c.index-targets-number.result c.in-Ok-Ok.block.writes c.in-Ok-Ok.block.bytes
     c.requires.so_far.given same c.requires.number
     (is _ (slice_get-get_or c.args.targets.now c.args.number c.index-targets-number.result c.requires.number)) c.in-Ok-Ok.ensures) before)
 

@@ -1,5 +1,0 @@
-use Rattle.table_answers.proofs.Made.{query_carries}
-use Rattle.table_answers.proofs.laws.queries_carry_rows.Goals as goal
-
-pub returns : goal.returns
-returns c = query_carries
