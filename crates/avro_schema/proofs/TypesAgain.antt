@@ -8,7 +8,7 @@ use Rattle.serde_json.specs.Written.{has_float, items_have_float}
 use Rattle.table_forms.specs.JsonObjects.{json_of, least_unknown}
 use Rattle.avro_schema.specs.AvroTypes.{AvroType, null, boolean, int, long, bytes, string, fixed_of, enum_of, array_of, map_of, union_of, record_of, Branches, no_branches, branch, Fields, no_fields, field, branches_of, fields_of}
 use Rattle.avro_schema.specs.Names.{is_name, is_among}
-use Rattle.avro_schema.specs.Heads.{Head, leaf, array, union, record_head, ◌>>=◌, only_if, only_some, has_only, name_in, head_of}
+use Rattle.avro_schema.specs.Heads.{Head, leaf, array, union, record_head, ◌>>=◌, only_if, only_some, has_only, name_in}
 use Rattle.avro_schema.specs.Heads as heads
 use Rattle.avro_schema.specs.SchemaTexts.{at_position, kind_of, kind_of_head, field_head_after, inner_type, branch_after, branches_from, field_after, fields_from, type_inside, head_within, type_within, type_in, type_of_json, type_named, texts_json, type_json, branches_json, fields_json, field_json}
 use Rattle.avro_schema.proofs.Steps.{bind_Ok, bind_to, only_if_Ok, at_position_Ok, ok_of, and_true}

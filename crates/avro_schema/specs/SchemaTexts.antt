@@ -1,7 +1,7 @@
 -- Which text names which type, and where the first refusal stands in a walk from the root, a schema before those inside
 -- it and these in their order. Its path has the position of each union's branch and each record's field on the way; an
 -- array's items and a map's values are at position 0. At most 32 schemas lie on a way, which is this project's own limit.
-use Rattle.std.specs.Prelude.{◌≡◌, ℕ, zero, suc, List, [], ◌∷◌, ◌++◌, length, Bool, not, ◌&&◌, if◌then◌else◌, Option, Some, None, Result, Ok, Err, codes}
+use Rattle.std.specs.Prelude.{◌≡◌, ℕ, zero, suc, List, [], ◌∷◌, ◌++◌, length, not, ◌&&◌, if◌then◌else◌, Option, Some, None, Result, Ok, Err, codes}
 use Rattle.std.specs.Prelude as list
 use Rattle.serde_json.specs.Data as json
 use Rattle.serde_json.specs.Data.{Data, Items, no_items, item, no_members, member, unsigned}

@@ -1,5 +1,5 @@
 // The written text of a schema.
-ghost use Rattle.std.specs.Prelude.{◌≡◌, List, ℕ, Ok, IfOk, IsUtf8, map};
+ghost use Rattle.std.specs.Prelude.{◌≡◌, Ok, IfOk, IsUtf8, map};
 ghost use Rattle.serde_json.specs.Data as json;
 ghost use Rattle.serde_json.specs.Data.{Data};
 ghost use Rattle.serde_json.specs.View.{view, items_of};

@@ -1,6 +1,5 @@
 // Whether a value is of a schema's type.
-ghost use Rattle.std.specs.Prelude.{◌≡◌, ◌<◌, ◌^◌, ◌↔◌, ℕ, ℤ, Bool, List, length, map, IsTrue, FitsSigned, IsUtf8};
-ghost use Rattle.std.specs.Int.{w32, w64};
+ghost use Rattle.std.specs.Prelude.{◌≡◌, ◌<◌, ◌^◌, ◌↔◌, List, length, map, IsTrue, IsUtf8};
 ghost use Rattle.std.specs.List.{AllByRecursion};
 ghost use Rattle.avro_schema.specs.AvroTypes.{type_of, field_of, branches_of, fields_of, null, boolean, int, long, bytes, string, fixed_of, enum_of, array_of, map_of, union_of, record_of};
 ghost use Rattle.avro_schema.specs.Fits.{Fits, FitsEntry, FitsBranch, FitFields};

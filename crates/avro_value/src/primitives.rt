@@ -1,8 +1,6 @@
 // Primitives, and values without values inside.
-ghost use Rattle.std.specs.Prelude.{◌≡◌, ◌<◌, IfOk, IsUtf8, length};
+ghost use Rattle.std.specs.Prelude.{◌≡◌, ◌<◌, IfOk};
 ghost use Rattle.byte_fields.specs.Reading.{Gives};
-ghost use Rattle.byte_fields.specs.Varints.{zigzag_at};
-ghost use Rattle.byte_fields.specs.Prefixed.{bytes_at, prefixed_at, long_length_at, text_at};
 ghost use Rattle.avro_schema.specs.Reading.{boolean_at, index_at};
 
 use byte_fields::{FieldError, u8_at, zigzag_i32_at};

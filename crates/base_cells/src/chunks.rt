@@ -1,7 +1,7 @@
 // The chunks of a row group.
 ghost use Rattle.std.specs.Prelude.{◌≡◌, length, IfOk};
 ghost use Rattle.base_cells.specs.Columns.{number_or_0};
-ghost use Rattle.base_cells.specs.Cells.{chunk_at, cells_from};
+ghost use Rattle.base_cells.specs.Cells.{chunk_at};
 ghost use Rattle.base_cells.specs.Answers.{Answers};
 
 use crate::base_error::{BaseCause, BaseError};

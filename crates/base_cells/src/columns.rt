@@ -1,5 +1,5 @@
 // Whether a footer tells of a file of certain columns.
-ghost use Rattle.std.specs.Prelude.{◌≡◌, true, pos, length, sum_by, IfOk};
+ghost use Rattle.std.specs.Prelude.{◌≡◌, true, pos, sum_by, IfOk};
 ghost use Rattle.std.specs.List.{list_all};
 ghost use Rattle.std.specs.Ordering.{int_eq};
 ghost use Rattle.base_cells.specs.Ends.{footer_start};

@@ -1,7 +1,7 @@
 // The two ends of a file and its footer.
 ghost use Rattle.std.specs.Prelude.{◌≡◌, ◌≤◌, ◌+◌, length, IfOk};
 ghost use Rattle.parquet_meta.specs.Footers.{footer_of};
-ghost use Rattle.base_cells.specs.Ends.{magic, footer_len, footer_start, footer_bytes_at, meta_or, plain_meta_at};
+ghost use Rattle.base_cells.specs.Ends.{footer_len, footer_start, footer_bytes_at, meta_or, plain_meta_at};
 ghost use Rattle.base_cells.specs.Answers.{Answers};
 
 use crate::base_error::{BaseCause, BaseError};

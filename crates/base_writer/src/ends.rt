@@ -1,5 +1,5 @@
 // The two ends of a file, with its footer.
-ghost use Rattle.std.specs.Prelude.{◌≡◌, ◌++◌, ◌∷◌, [], map, length, All, IfOk};
+ghost use Rattle.std.specs.Prelude.{◌≡◌, ◌++◌, ◌∷◌, [], length, All, IfOk};
 ghost use Rattle.std.specs.Bool.{OnTrue};
 ghost use Rattle.parquet_meta.specs.Written.{IsShort, FitsElement, FitsChunk, FitsRowGroup, FitsFileMeta, file_meta_bytes};
 ghost use Rattle.base_cells.specs.Columns.{repetition_of};

@@ -1,5 +1,5 @@
 -- Varints: groups of seven bits, and what is written and read of them.
-use Rattle.std.proofs.Common.{◌≡◌, ℕ, zero, suc, ◌+◌, ◌*◌, ◌/◌, ◌%◌, ◌^◌, ◌<◌, ◌≤◌, ℤ, pos, negsuc, Bool, true, false, cond, ltb, inl, inr, List, [], ◌∷◌, ◌++◌, get_or, length, take, drop, Option, Some, None, Result, Ok, Err, refl, sym, ap, subst, ◌∙◌, arith}
+use Rattle.std.proofs.Common.{◌≡◌, ℕ, zero, suc, ◌+◌, ◌-◌, ◌*◌, ◌/◌, ◌%◌, ◌^◌, ◌<◌, ◌≤◌, ℤ, pos, negsuc, Bool, true, false, cond, ltb, inl, inr, List, [], ◌∷◌, ◌++◌, get_or, length, take, drop, Option, Some, None, Result, Ok, Err, refl, sym, ap, subst, ◌∙◌, arith}
 use Rattle.std.specs.Prelude.{◌↔◌, FitsSigned}
 use Rattle.std.specs.Int.{w16, w32, w64}
 use Rattle.std.proofs.lemmas.Int.{ints}
@@ -475,3 +475,13 @@ short-varint_at w left bytes ends e =
     ap (λ (o : Option ℕ). groups_to o bytes >>= number_in w bytes) at
     ∙ rw (lt-ltb (length bytes) 10 ends.few) refl
     ∙ ap (λ (k : ℕ). Err (Short k)) (sym e)
+
+-- a first byte that is the last one
+pub one_group : (bytes : List ℕ) → 1 ≤ length bytes → get_or bytes 0 0 < 128 → varint_at 64 bytes ≡ Ok (get_or bytes 0 0, take (length bytes - 1) (drop 1 bytes))
+one_group [] some small = absurd (omega arith)
+one_group (x ∷ xs) some small =
+    let number : groups_number (x ∷ []) ≡ x = groups_number-one x small in
+    let below : x < 2 ^ 64 = omega arith in
+    let rest : take (length (x ∷ xs) - 1) xs ≡ xs = take_all (length (x ∷ xs) - 1) xs (omega arith) in
+    varint_at_again 64 (x ∷ []) xs x (record { groups = small; at_most_ten = omega arith; number = number; below = below }) below
+    ∙ ap (λ (t : List ℕ). Ok (x, t)) (sym rest)

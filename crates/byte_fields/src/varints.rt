@@ -53,6 +53,17 @@ fn groups_at(bytes: &[u8]) -> Result<(&[u8], &[u8]), FieldError>
 pub fn varint_at(bytes: &[u8]) -> Result<(u64, &[u8]), FieldError>
     ensures { Gives (λ x. (x.0, x.1.now)) result (varint_at 64 bytes.now) }
 {
+    // Most varints have one byte, so that one is read without a search for its end.
+    match bytes {
+        [byte, rest @ ..] if *byte < 128 => Ok((u64::from(*byte), rest)),
+        _ => long_varint_at(bytes),
+    }
+}
+
+#[tactic(auto, unfolding(crate::specs::Varints::varint_at))]
+fn long_varint_at(bytes: &[u8]) -> Result<(u64, &[u8]), FieldError>
+    ensures { Gives (λ x. (x.0, x.1.now)) result (varint_at 64 bytes.now) }
+{
     let (groups, rest) = groups_at(bytes)?;
     match groups_number(groups) {
         Some(number) => Ok((number, rest)),

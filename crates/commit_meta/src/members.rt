@@ -1,5 +1,5 @@
 // The members of the objects that files hold, and the one at fault.
-ghost use Rattle.std.specs.Prelude.{◌≡◌, ◌⊎◌, ℕ, List, Result, Err, OnOk, option_map};
+ghost use Rattle.std.specs.Prelude.{◌≡◌, ◌⊎◌, ℕ, List, Result, Err, option_map};
 ghost use Rattle.serde_json.specs.View.{view};
 ghost use Rattle.commit_meta.specs.Metadata.{required, with_unknown};
 ghost use Rattle.commit_meta.specs.Texts.{Answers};

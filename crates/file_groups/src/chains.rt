@@ -1,6 +1,5 @@
 // Which files of a group are read at a time.
 ghost use Rattle.std.specs.Prelude.{◌≡◌, ◌++◌, ◌∷◌, [], option_map, IfOk, OnOk, IfErr, filter, map};
-ghost use Rattle.std.specs.List.Sorted.{IsPermutation};
 ghost use Rattle.file_groups.specs.Chains.{newest_time, newest_base, is_after, log_number, part_of_base, part_of_log, base_first, IsChain};
 ghost use Rattle.file_groups.specs.Orders.{IsSortedFrom};
 ghost use Rattle.file_groups.specs.declared.view_error.ViewError.TheVariants.{Memory};

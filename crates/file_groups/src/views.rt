@@ -1,16 +1,13 @@
 // The files of each group of a partition.
-ghost use Rattle.std.specs.Prelude.{◌≡◌, ◌++◌, ◌∷◌, [], Err, Some, None, IfOk, OnOk, ℕ, List, not, filter, map, option_map, MatchResult};
-ghost use Rattle.std.specs.List.{find, filter_map};
+ghost use Rattle.std.specs.Prelude.{◌≡◌, ◌++◌, ◌∷◌, [], Err, Some, None, IfOk, OnOk, ℕ, List, filter, map, option_map};
 ghost use Rattle.std.specs.List.Sorted.{IsNonDecreasingBy, IsSorted};
 ghost use Rattle.std.specs.Ordering.{nat_cmp};
 ghost use Rattle.std.specs.Cmp.Lexicographic.{slice_cmp};
-ghost use Rattle.std.specs.Str.{bytes_eq};
 ghost use Rattle.hudi_base.specs.declared.file_group.GroupRef.{GroupRef};
-ghost use Rattle.key_index.specs.Tiling.{is_same_group};
-ghost use Rattle.file_groups.specs.Names.{has_name, IsNameTable};
+ghost use Rattle.file_groups.specs.Names.{has_name};
 ghost use Rattle.file_groups.specs.Orders.{IsSortedFrom};
 ghost use Rattle.file_groups.specs.Slots.{group_number};
-ghost use Rattle.file_groups.specs.Views.{log_part, log_parts, base_parts, is_among, view_from, AreViews, partition_of, file_partitions, base_partitions, partitions, first_other};
+ghost use Rattle.file_groups.specs.Views.{log_part, log_parts, base_parts, view_from, AreViews, partition_of, file_partitions, base_partitions, partitions, first_other};
 ghost use Rattle.file_groups.specs.declared.view_error.ViewError.TheVariants.{NoTile};
 
 use crate::names::{has_name, sorted_names};

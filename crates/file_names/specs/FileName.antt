@@ -37,7 +37,7 @@ instant_ending action Completed = codes "." ++ completed_name action
 abbrev pub token_text : Token → List ℕ
 token_text token = codes "0-" ++ (decimal token.session ++ (45 ∷ decimal token.attempt))
 
--- The name of each file.
+-- The name of each file, where 47 is `/`, 46 is `.` and 95 is `_`.
 unfoldable pub name_of : List ℕ → FileName → List ℕ
 name_of table (Instant t action state) = codes ".hoodie/" ++ (time_text t ++ instant_ending action state)
 name_of table (Base group token t) =
@@ -49,21 +49,25 @@ name_of table Other = []
 
 -- ---- which files have a name
 
+-- the partition's path has the form of one, and the slots of the group are 16-bit numbers
 pub record IsGroup (group : GroupRef) : Type 0 where
   pub partition : IsPartitionPath group.partition
   pub lo : group.lo < 2 ^ 16
   pub hi : group.hi < 2 ^ 16
   pub born : IsTime group.born
 
+-- both numbers have 64 bits
 pub record IsToken (token : Token) : Type 0 where
   pub session : token.session < 2 ^ 64
   pub attempt : token.attempt < 2 ^ 64
 
+-- a base file's parts
 pub record IsBase (group : GroupRef) (token : Token) (t : ℕ) : Type 0 where
   pub of_group : IsGroup group
   pub made_by : IsToken token
   pub at : IsTime t
 
+-- a log file's parts; versions count from 1
 pub record IsLog (group : GroupRef) (slice version : ℕ) (token : Token) : Type 0 where
   pub of_group : IsGroup group
   pub within : IsTime slice
@@ -71,7 +75,7 @@ pub record IsLog (group : GroupRef) (slice version : ℕ) (token : Token) : Type
   pub fits : version < 2 ^ 64
   pub made_by : IsToken token
 
--- The partition has the form of one, a version is at least 1, and `Other` has none.
+-- The file has a name: its parts are in range. `Other` has none.
 abbrev pub IsNamed : FileName → Type 0
 IsNamed (Instant t action state) = IsTime t
 IsNamed (Base group token t) = IsBase group token t
@@ -88,6 +92,7 @@ IsRead table name file = IsNamed file × (name ≡ name_of table file)
 
 -- ---- kinds and groups
 
+-- what sort of file it is, without its parts
 pub data Kind : Type 0 where
   timeline : Kind
   base : Kind
@@ -95,6 +100,7 @@ pub data Kind : Type 0 where
   properties : Kind
   other : Kind
 
+-- the kind of a file
 abbrev pub kind_of : FileName → Kind
 kind_of (Instant t action state) = timeline
 kind_of (Base group token t) = base

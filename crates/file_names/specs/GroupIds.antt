@@ -8,12 +8,13 @@ use Rattle.file_names.specs.Candidate.{group_of}
 use Rattle.file_names.specs.FileId.{file_id}
 use Rattle.file_names.specs.FileName.{IsGroup}
 
--- the text has the form of a partition's path
+-- the text has the form of a partition's path, which doesn't begin with a dot (46)
 abbrev pub is_partition_path : List ℕ → Bool
 is_partition_path text =
     nat_le 1 (length text) && nat_le (length text) 200 && not (slice_index text 0 == 46)
     && list_all is_partition_byte text
 
+-- the group, if this is its id
 abbrev pub only_with_id : List ℕ → List ℕ → GroupRef → Option GroupRef
 only_with_id table id group = if bytes_eq (file_id table group) id then Some group else None
 

@@ -1,5 +1,5 @@
 // The one file whose name a text may be.
-ghost use Rattle.std.specs.Prelude.{◌≡◌, ◌≤◌, ◌<◌, ◌^◌, IfOk, IsUtf8, Option, option_map, option_and_then, take, drop, slice_index, codes};
+ghost use Rattle.std.specs.Prelude.{◌≡◌, ◌≤◌, ◌<◌, ◌^◌, IfOk, Option, option_map, take, drop, slice_index, codes};
 ghost use Rattle.std.specs.Str.{bytes_eq};
 ghost use Rattle.file_names.specs.FileName.{instant_ending};
 ghost use Rattle.file_names.specs.Candidate.{hex_value, hex_number, born_of, group_of, token_of, state_of, ending_of, timeline_file, base_file, log_file, three_pieces, data_file, IsFound};

@@ -1,5 +1,5 @@
 // Laws of names, over the definitions of specs/. Layers above cite these and never the bytes of a name.
-ghost use Rattle.std.specs.Prelude.{◌≡◌, ◌≢◌, ℕ, List, Option, Some};
+ghost use Rattle.std.specs.Prelude.{◌≡◌, ◌≢◌, ℕ, List};
 ghost use Rattle.hudi_base.specs.declared.file_group.GroupRef.{GroupRef};
 ghost use Rattle.file_names.specs.FileId.{file_id};
 ghost use Rattle.file_names.specs.FileName.{name_of, kind_of, group_of_file, IsGroup, IsNamed, IsRead};

@@ -1,8 +1,8 @@
 //! The names of a table's files: the timeline's files, base files, log files and the properties.
 //!
 //! Its contract: each file has one name, `parse_name` reads it back and answers `Other` exactly for what is no name of
-//! a file, and distinct files have distinct names. It stands on `hudi_base`, on the forms of `table_forms` and on
-//! `uuid`. Layers above cite the laws of `laws` and never the bytes of a name.
+//! a file, and distinct files have distinct names. It depends on `hudi_base`, on the forms of `table_forms`, and for
+//! file ids on `sha1` and `uuid`. Layers above cite the laws of `laws` and never the bytes of a name.
 #![tactic(auto)]
 
 mod candidate;

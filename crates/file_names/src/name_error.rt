@@ -10,6 +10,7 @@ pub enum NameError {
     Memory,
 }
 
+// `from_gives` says what `?` makes of the error, for the proofs of functions that use it.
 impl From<AllocError> for NameError {
     ghost from_gives = { λ _ error. error ≡ Memory };
 

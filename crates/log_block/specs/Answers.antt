@@ -13,7 +13,7 @@ IsWhole Torn = ⊥
 IsWhole (Bad offset) = ⊥
 IsWhole Memory = ⊥
 
--- The answer is what stands there; where that is a whole block, memory may have run out.
+-- The answer is what the bytes begin with; where that is a whole block, memory may have run out.
 abbrev pub Answers : BlockRead → BlockRead → Type 0
 Answers (Whole block len) there = there ≡ Whole block len
 Answers Torn there = there ≡ Torn
@@ -30,7 +30,7 @@ pub record IsWritten (bytes : List ℕ) (block : Block) (len : ℕ) : Type 0 whe
   pub form : take len bytes ≡ block_bytes block
   pub fits : Fits block
 
--- The offset of a bad field: 0 where no magic stands, else behind the length and not behind the block's end.
+-- The offset of a bad field: 0 where there is no magic, else behind the length and not behind the block's end.
 abbrev pub IsBadOffset : List ℕ → ℕ → Type 0
 IsBadOffset bytes offset =
     ((offset ≡ 0) × (begins bytes ≡ false))

@@ -10,8 +10,8 @@ pub const MAGIC: &[u8] = b"#HUDI#";
 /// The number of bytes of the magic.
 pub const MAGIC_LEN: usize = 6;
 
-/// The number of bytes of the magic and the length behind it.
-pub const HEAD_LEN: usize = 14;
+/// The offset behind a block's length, which comes after the magic and takes eight bytes.
+pub const LENGTH_END: usize = 14;
 
 /// The number of bytes of the version, the type, the content's length and the footer.
 pub const FIXED_LEN: usize = 20;

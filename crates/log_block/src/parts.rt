@@ -4,7 +4,7 @@ ghost use Rattle.byte_fields.specs.Reading.{Gives};
 ghost use Rattle.log_block.specs.Parts.{block_of};
 ghost use Rattle.log_block.specs.Reading.{type_at, parts_at, ends_at, inside_at};
 
-use crate::format::{BlockType, FOOTER_ENTRIES, HEAD_LEN, SIZE_LEN, VERSION};
+use crate::format::{BlockType, FOOTER_ENTRIES, LENGTH_END, SIZE_LEN, VERSION};
 use crate::header::{data_header_at, delete_header_at, rollback_header_at};
 use byte_fields::{FieldError, after_u32, after_u64, u32_at, u64_then_bytes_at};
 use byteorder::{BigEndian, ByteOrder};
@@ -107,7 +107,7 @@ fn ends_at(size: u64, bytes: &[u8]) -> Result<(), FieldError>
 /// The parts of a block from the bytes behind its length, up to its end.
 #[tactic(auto, unfolding(crate::specs::Reading::inside_at))]
 pub fn inside_at(bytes: &[u8]) -> Result<Parts<'_>, FieldError>
-    // The block has 14 bytes before these, of which its length counts all but 8.
+    // The block has 14 bytes before these, and its size field counts all of its bytes but the last eight.
     requires { length bytes.now + 6 < 2 ^ 64 }
     ensures { Gives (λ x. block_of x) result (inside_at bytes.now) }
 {
@@ -117,6 +117,6 @@ pub fn inside_at(bytes: &[u8]) -> Result<Parts<'_>, FieldError>
         Ok(found) => found,
         Err(error) => return Err(error),
     };
-    ends_at((bytes.len() + (HEAD_LEN - SIZE_LEN)) as u64, rest)?;
+    ends_at((bytes.len() + (LENGTH_END - SIZE_LEN)) as u64, rest)?;
     Ok(parts)
 }

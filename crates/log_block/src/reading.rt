@@ -5,7 +5,7 @@ ghost use Rattle.log_block.specs.Parts.{block_of, EndsEarly, IsInside};
 ghost use Rattle.log_block.specs.Reading.{begins, block_at};
 
 use crate::block::{Block, BlockError, BlockRead};
-use crate::format::{HEAD_LEN, MAGIC, MAGIC_LEN};
+use crate::format::{LENGTH_END, MAGIC, MAGIC_LEN};
 use crate::parts::{Parts, inside_at};
 use byteorder::{BigEndian, ByteOrder};
 use hudi_base::Bytes;
@@ -22,11 +22,11 @@ fn begins(bytes: &[u8]) -> bool
 fn inside_of(bytes: &[u8]) -> Option<&[u8]>
     ensures { MatchOption result (EndsEarly bytes.now) (λ inside. IsInside bytes.now inside.now) }
 {
-    if bytes.len() < HEAD_LEN {
+    if bytes.len() < LENGTH_END {
         return None;
     }
     let len = BigEndian::read_u64(&bytes[MAGIC_LEN..]) as usize;
-    let rest = &bytes[HEAD_LEN..];
+    let rest = &bytes[LENGTH_END..];
     if rest.len() < len {
         return None;
     }
@@ -64,7 +64,7 @@ fn block_at(alloc: Global, bytes: &[u8]) -> BlockRead
     let Some(inside) = inside_of(bytes) else {
         return BlockRead::Torn;
     };
-    let end = HEAD_LEN + inside.len();
+    let end = LENGTH_END + inside.len();
     match inside_at(inside) {
         Ok(parts) => match copy_of(alloc, parts) {
             Ok(block) => BlockRead::Whole(block, end),
@@ -74,14 +74,14 @@ fn block_at(alloc: Global, bytes: &[u8]) -> BlockRead
     }
 }
 
-/// What stands at the beginning of bytes, of which there is at least one. Bytes behind the block are not looked at.
+/// What bytes, of which there is at least one, begin with. Bytes behind a whole block are not looked at.
 pub fn read_block(alloc: Global, bytes: &[u8]) -> BlockRead
     requires { 0 < length bytes.now }
-    // The answer is what stands there; `Memory` comes only where a whole block does.
+    // The answer is what the bytes begin with; `Memory` comes only where that is a whole block.
     ensures there { Answers result (block_at bytes.now) }
-    // A whole block stands there in its one form.
+    // A whole block is in its one form.
     ensures whole { IfWhole result (λ block len. IsWritten bytes.now block len) }
-    // A bad field begins at 0, where no magic stands, or behind the length and not behind the block's end.
+    // A bad field begins at 0, where there is no magic, or behind the length and not behind the block's end.
     ensures bad { IfBad result (λ offset. IsBadOffset bytes.now offset) }
 {
     block_at(alloc, bytes)

@@ -7,7 +7,7 @@ ghost use Rattle.log_block.specs.Form.{entry, header, fields, frame, block_bytes
 
 use crate::block::{Block, BlockError};
 use crate::format::{
-    BlockType, FIXED_LEN, FOOTER_ENTRIES, HEAD_LEN, HeaderKey, MAGIC, ROLLBACK, SIZE_LEN, VERSION,
+    BlockType, FIXED_LEN, FOOTER_ENTRIES, HeaderKey, LENGTH_END, MAGIC, ROLLBACK, SIZE_LEN, VERSION,
 };
 use byte_fields::{put_u32, put_u32_prefixed, put_u64};
 use byteorder::BigEndian;
@@ -24,7 +24,7 @@ fn put_entry(out: &mut Vec<u8>, key: HeaderKey, text: &[u8]) -> Result<(), Alloc
     put_u32_prefixed::<BigEndian>(out, text)
 }
 
-// The entry of a time. The call of `ms` tells the proof that the time is in range.
+// The entry of a time. The call of `ms` is there for its contract, by which every time is in range.
 fn put_time(out: &mut Vec<u8>, key: HeaderKey, time: InstantTime) -> Result<(), AllocError>
     ensures text { OnOk result (out.new.items ≡ out.old.items ++ entry key (time_text time)) }
     ensures range { OnOk result (IsTime time) }
@@ -67,9 +67,9 @@ fn header(alloc: Global, block: &Block) -> Result<Vec<u8>, AllocError>
 fn fields_len(header: usize, content: usize) -> Option<usize>
     ensures { SomeIff result (header + content + 42 < 2 ^ 64) (header + content + 20) }
 {
-    let fixed = header.checked_add(HEAD_LEN + FIXED_LEN + SIZE_LEN)?;
+    let fixed = header.checked_add(LENGTH_END + FIXED_LEN + SIZE_LEN)?;
     let all = fixed.checked_add(content)?;
-    Some(all - (HEAD_LEN + SIZE_LEN))
+    Some(all - (LENGTH_END + SIZE_LEN))
 }
 
 // The content behind its length.
@@ -118,11 +118,11 @@ fn frame(alloc: Global, of: BlockType, header: &[u8], content: &[u8]) -> Result<
     let Some(inside) = fields_len(header.len(), content.len()) else {
         return Err(BlockError::Memory);
     };
-    let mut out = Vec::with_capacity(alloc, inside + HEAD_LEN + SIZE_LEN)?;
+    let mut out = Vec::with_capacity(alloc, inside + LENGTH_END + SIZE_LEN)?;
     out.extend_from_slice(MAGIC)?;
     put_u64::<BigEndian>(&mut out, (inside + SIZE_LEN) as u64)?;
     put_fields(&mut out, of, header, content)?;
-    put_u64::<BigEndian>(&mut out, (inside + HEAD_LEN) as u64)?;
+    put_u64::<BigEndian>(&mut out, (inside + LENGTH_END) as u64)?;
     Ok(Bytes::from_vec(out))
 }
 

@@ -1,6 +1,5 @@
 // What writes come to that are summed before they meet the row of their key.
 ghost use Rattle.std.specs.Prelude.{◌≡◌, IfOk};
-ghost use Rattle.payload_merge.specs.Payload.{Key};
 ghost use Rattle.payload_merge.specs.Summary.{IsOfKey};
 
 use crate::rows::{body_left, del, put, row};

@@ -1,6 +1,5 @@
 // Files, and groups with their files, as JSON.
-ghost use Rattle.std.specs.Prelude.{◌≡◌, IfOk};
-ghost use Rattle.serde_json.specs.View.{view};
+ghost use Rattle.std.specs.Prelude.{◌≡◌};
 ghost use Rattle.meta_parts.specs.Parts.{file_in, plan_group_in, base_in, file_json, plan_group_json, base_json};
 
 use crate::form::{Form, at_member};

@@ -1,5 +1,5 @@
 // Groups and slices as JSON.
-ghost use Rattle.std.specs.Prelude.{◌≡◌, IfOk, is_none, map, string_bytes};
+ghost use Rattle.std.specs.Prelude.{◌≡◌, IfOk, is_none, map};
 ghost use Rattle.serde_json.specs.View.{view};
 ghost use Rattle.table_forms.specs.JsonObjects.{least_unknown};
 ghost use Rattle.meta_parts.specs.Parts.{group_at, group_in, target_at, target_in, written_target_in, id_json, group_json, target_json, written_target_json};

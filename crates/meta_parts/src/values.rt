@@ -1,6 +1,5 @@
 // Values with a form in JSON: texts, numbers, times, and what may be null.
-ghost use Rattle.std.specs.Prelude.{◌≡◌, IfOk};
-ghost use Rattle.serde_json.specs.View.{view};
+ghost use Rattle.std.specs.Prelude.{◌≡◌};
 ghost use Rattle.meta_parts.specs.Members.{text_in, number_in, number_32_in, time_in, kind_in, or_null};
 ghost use Rattle.meta_parts.specs.Parts.{text_json, number_json, time_json, kind_json, null_or};
 

@@ -1,5 +1,5 @@
 -- The pages of the tests are short, and their cells are of their columns.
-use Rattle.std.proofs.Common.{◌≡◌, ℕ, ◌+◌, true, false, List, [], ◌∷◌, length, pos, negsuc, refl, ap, arith}
+use Rattle.std.proofs.Common.{◌≡◌, ◌+◌, true, false, List, [], ◌∷◌, length, pos, negsuc, refl, ap, arith}
 use Rattle.std.specs.List.{flat_map}
 use Rattle.hudi_base.specs.declared.column.Column.{Column}
 use Rattle.hudi_base.specs.declared.value.Value.{Value}

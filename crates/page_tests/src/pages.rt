@@ -1,6 +1,5 @@
 // Pages: the cells that are read and how many bytes they take, the refusals, and what is written.
 ghost use Rattle.std.specs.Prelude.{◌≡◌, [], ◌∷◌, pos, negsuc, true, false, IfOk};
-ghost use Rattle.std.specs.List.{list_all};
 ghost use Rattle.hudi_base.specs.declared.value.Value.TheVariants as value;
 ghost use Rattle.parquet_pages.specs.Pages.{FitsPage};
 

@@ -1,6 +1,6 @@
 // Reading a struct field by field, and a list item by item.
-ghost use Rattle.std.specs.Prelude.{◌≡◌, ◌-◌, ◌≤◌, ◌∷◌, ◌++◌, [], length, ok_or};
-ghost use Rattle.byte_fields.specs.Varints.{varint_at, zigzag_at};
+ghost use Rattle.std.specs.Prelude.{◌≡◌, ◌-◌, ◌≤◌, ◌∷◌, ◌++◌, [], ok_or};
+ghost use Rattle.byte_fields.specs.Varints.{zigzag_at};
 ghost use Rattle.parquet_meta.specs.Answers.{ReadsHere};
 ghost use Rattle.parquet_meta.specs.Reading.{typed_at, i32_field_at, i64_field_at, binary_field_at, binary_at, other_field_at, whole_at, items_at, list_of_at, list_field_at, with_value};
 

@@ -1,5 +1,5 @@
 // The header of a page.
-ghost use Rattle.std.specs.Prelude.{◌≡◌, ◌∷◌, [], pos, length, OnOk, IfOk, IfErr};
+ghost use Rattle.std.specs.Prelude.{◌≡◌, ◌∷◌, [], pos, OnOk, IfOk, IfErr};
 ghost use Rattle.thrift_compact.specs.declared.writer.Level.TheVariants.{Struct};
 ghost use Rattle.parquet_meta.specs.PageHeaders.{page_header_at};
 ghost use Rattle.parquet_meta.specs.Results.{AnswersHeader};

@@ -1,5 +1,5 @@
 // Writing the fields of a struct and the items of a list.
-ghost use Rattle.std.specs.Prelude.{◌≡◌, ◌<◌, ◌≤◌, ◌^◌, ◌+◌, ℕ, ℤ, pos, ◌<ℤ◌, ◌++◌, length, All, OnOk};
+ghost use Rattle.std.specs.Prelude.{◌≡◌, ◌<◌, ◌≤◌, ◌^◌, ◌+◌, ℕ, ℤ, ◌<ℤ◌, ◌++◌, length, All, OnOk};
 ghost use Rattle.thrift_compact.specs.Writing.{TakesField, TakesItem};
 ghost use Rattle.parquet_meta.specs.Written.{optional_field, list_bytes, number_bytes, binary_bytes, IsShort};
 ghost use Rattle.parquet_meta.specs.Writers.{with_field, with_fields, with_item};

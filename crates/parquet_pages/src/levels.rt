@@ -1,6 +1,5 @@
 // Definition levels, which tell values from nulls.
 ghost use Rattle.std.specs.Prelude.{◌≡◌, ◌≤◌, ◌<◌, ◌^◌, ◌+◌, ◌*◌, ◌++◌, ◌∷◌, length, take, IfOk, IfErr, OnOk};
-ghost use Rattle.byteorder.specs.Endian.{little_bytes};
 ghost use Rattle.byte_fields.specs.Reading.{left_of};
 ghost use Rattle.parquet_pages.specs.Levels.{run_bytes, levels_body, levels_bytes, repeated_at, packed_at, run_at, runs_at, levels_at, taken, error_behind};
 ghost use Rattle.parquet_pages.specs.Answers.{AnswersLevels, Reads};

@@ -1,5 +1,5 @@
 // Pages: a header, levels and values.
-ghost use Rattle.std.specs.Prelude.{◌≡◌, ◌<◌, ◌≤◌, ◌^◌, ◌++◌, map, length, take, Ok, IfOk, IfErr, OnOk, IfSome, OnSome};
+ghost use Rattle.std.specs.Prelude.{◌≡◌, ◌<◌, ◌≤◌, ◌^◌, ◌++◌, length, Ok, IfOk, IfErr, OnOk, IfSome};
 ghost use Rattle.std.specs.List.{flat_map};
 ghost use Rattle.parquet_pages.specs.Plain.{value_bytes};
 ghost use Rattle.parquet_pages.specs.Pages.{header_of, page_bytes, FitsPage, body_at, whole, body_size, page_cells, strange_encoding, page_at};

@@ -3,7 +3,7 @@ ghost use Rattle.std.specs.Prelude.{◌≡◌, ◌<◌, ◌≤◌, ◌^◌, ◌+
 ghost use Rattle.hudi_base.specs.declared.column.Column.{Column};
 ghost use Rattle.hudi_base.specs.declared.value.Value.{Value};
 ghost use Rattle.hudi_base.specs.declared.value.Value.TheVariants.{Text};
-ghost use Rattle.column_cells.specs.Cells.{AreCellsOf, has_known_type, is_short};
+ghost use Rattle.column_cells.specs.Cells.{AreCellsOf, has_known_type};
 ghost use Rattle.payload_merge.specs.declared.row.Row.{Row};
 ghost use Rattle.payload_merge.specs.declared.row_error.RowError.TheVariants.{Memory};
 ghost use Rattle.payload_merge.specs.Contents.{AreRowsOf, CellsReading, DataPlace, DataReading, data_writes};

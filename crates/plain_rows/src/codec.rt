@@ -1,12 +1,6 @@
 // The codec of the table.
-ghost use Rattle.std.specs.Prelude.{◌≡◌, ◌<◌, ◌≤◌, ◌^◌, ◌++◌, ◌∷◌, ℕ, List, codes, length};
-ghost use Rattle.std.specs.Prelude.{map, slice_get, All, IsTrue, IsUtf8, IfOk, IfErr, Ok, Some};
-ghost use Rattle.hudi_base.specs.declared.value.Value.TheVariants.{Text};
-ghost use Rattle.column_cells.specs.Cells.{AreCellsOf};
-ghost use Rattle.payload_merge.specs.Contents.{AreRowsOf, DataPlace, data_writes};
-ghost use Rattle.payload_merge.specs.RowCodec.{AnswersContent, AnswersLent};
-ghost use Rattle.payload_merge.specs.RowRefs.{write_in};
-ghost use Rattle.payload_merge.specs.declared.row_error.RowError.TheVariants.{Memory};
+ghost use Rattle.std.specs.Prelude.{◌≡◌, ◌<◌, ◌≤◌, ◌^◌, ◌++◌, ◌∷◌, codes};
+ghost use Rattle.std.specs.Prelude.{Ok, Some};
 ghost use Rattle.plain_rows.specs.Cells.{row_in, the_columns};
 ghost use Rattle.plain_rows.specs.Contents.{Lends, rows_in};
 ghost use Rattle.plain_rows.specs.OwnRows.{IsOwn};

@@ -1,6 +1,5 @@
 // Contents of data blocks, as they are written.
-ghost use Rattle.std.specs.Prelude.{◌≡◌, ◌<◌, ◌^◌, ◌++◌, length, not, All, FitsSigned, OnOk, IfOk};
-ghost use Rattle.std.specs.Int.{w64};
+ghost use Rattle.std.specs.Prelude.{◌≡◌, ◌<◌, ◌^◌, ◌++◌, length, All, OnOk, IfOk};
 ghost use Rattle.std.specs.List.{flat_map};
 ghost use Rattle.plain_rows.specs.Contents.{are_in_order, content_bytes, fields_bytes};
 ghost use Rattle.plain_rows.specs.Contents.{place_bytes, row_bytes, told_bytes};

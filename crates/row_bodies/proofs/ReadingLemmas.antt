@@ -1,19 +1,19 @@
 -- Cells that are read, one after another.
-use Rattle.std.proofs.Common.{◌≡◌, ◌⊎◌, inl, inr, ℕ, ◌+◌, ◌<◌, ◌≤◌, Bool, true, false, List, [], ◌∷◌, ◌++◌, length, get_or, take, drop, map, Result, Ok, Err, refl, sym, ap, subst, ◌∙◌, arith}
+use Rattle.std.proofs.Common.{◌≡◌, ◌⊎◌, inl, inr, ℕ, ◌+◌, ◌<◌, ◌≤◌, true, false, List, [], ◌∷◌, ◌++◌, length, get_or, take, drop, Result, Ok, Err, refl, sym, ap, subst, ◌∙◌}
 use Rattle.std.specs.Borrow.{Bor}
 use Rattle.std.proofs.lemmas.List.{drop_more, drop_all, take_more, take_all}
 use Rattle.std.proofs.lemmas.Slice.Zip.{all_zipped_more}
 use Rattle.byte_fields.specs.declared.field_error.FieldError.{FieldError}
 use Rattle.byte_fields.specs.Reading.{Gives, Reading, ◌>>=◌}
 use Rattle.hudi_base.specs.declared.value.Value.{Value, Null, Union}
-use Rattle.avro_schema.specs.AvroTypes.{AvroType, null, branch, no_branches, fields_of}
+use Rattle.avro_schema.specs.AvroTypes.{null, branch, no_branches}
 use Rattle.avro_schema.specs.Reading.{branch_at, fields_from, index_at, made, value_at}
 use Rattle.avro_value.proofs.DecodeLemmas.{fits_by}
 use Rattle.row_values.specs.declared.cell_ref.CellRef.{CellRef}
 use Rattle.row_values.specs.declared.flat_field.CellType.{CellType}
 use Rattle.row_values.specs.declared.flat_field.FlatField.{FlatField}
-use Rattle.row_values.specs.Fields.{cell_type, field_type, type_if_nullable, typed_field, typed_fields}
-use Rattle.row_values.specs.Cells.{AreCells, IsCell, IsCellOf, cell_view, record_values, union_value, value_if_nullable, value_of}
+use Rattle.row_values.specs.Fields.{cell_type, field_type, type_if_nullable, typed_fields}
+use Rattle.row_values.specs.Cells.{AreCells, IsCell, cell_view, record_values, union_value, value_of}
 use Rattle.row_values.proofs.CellLemmas.{plain, record_values-push}
 use Rattle.row_bodies.specs.Readers.{ReadsCell}
 

@@ -1,5 +1,5 @@
 // The schema of the records in data blocks.
-ghost use Rattle.std.specs.Prelude.{◌≡◌, map, IfOk, OnOk};
+ghost use Rattle.std.specs.Prelude.{◌≡◌, map, IfOk};
 ghost use Rattle.avro_schema.specs.AvroTypes.{field_of, type_of};
 ghost use Rattle.row_values.specs.Fields.{cell_type, field_type, typed_field};
 ghost use Rattle.row_records.specs.Records.{record_type};

@@ -12,7 +12,7 @@ use Rattle.hudi_base.specs.Calendar.{civil_ms}
 use Rattle.hudi_base.specs.declared.column.Column.{Column}
 use Rattle.hudi_base.specs.declared.value.Value.{Value, Null, Text}
 use Rattle.hudi_base.specs.declared.value.Value.TheVariants as value
-use Rattle.column_cells.specs.Cells.{has_known_type, is_cell, is_number, is_short}
+use Rattle.column_cells.specs.Cells.{has_known_type, is_cell, is_short}
 use Rattle.column_cells.specs.Cells as column
 use Rattle.payload_merge.specs.declared.row.Row.{Row}
 use Rattle.row_values.specs.declared.flat_field.CellType.{CellType}

@@ -1,5 +1,5 @@
 // Rows that come in as JSON.
-ghost use Rattle.std.specs.Prelude.{◌≡◌, ◌⊎◌, true, map, SomeIff, IfOk, IfSome, option_map};
+ghost use Rattle.std.specs.Prelude.{◌≡◌, ◌⊎◌, true, map, IfOk, IfSome, option_map};
 ghost use Rattle.std.specs.List.{AllZip, list_any};
 ghost use Rattle.std.specs.Char.{is_ascii_uppercase};
 ghost use Rattle.hudi_base.specs.declared.value.Value as variant;

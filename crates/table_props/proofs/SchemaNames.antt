@@ -10,7 +10,7 @@ use Rattle.table_forms.proofs.PieceLemmas.{lacks, and_parts, both}
 use Rattle.avro_schema.specs.AvroTypes.{AvroType, null, boolean, int, long, bytes, string, fixed_of, enum_of, array_of, map_of, union_of, record_of, branches_of, fields_of}
 use Rattle.avro_schema.specs.declared.schema_error.SchemaError.{SchemaError}
 use Rattle.avro_schema.specs.Names.{is_name, is_among}
-use Rattle.avro_schema.specs.Heads.{Head, leaf, array, union, record_head, ◌>>=◌, only_if, only_some, has_only, name_in, head_of}
+use Rattle.avro_schema.specs.Heads.{Head, leaf, array, union, record_head, ◌>>=◌, only_if, only_some, has_only, name_in}
 use Rattle.avro_schema.specs.Heads as heads
 use Rattle.avro_schema.specs.SchemaTexts.{at_position, field_head_after, inner_type, branches_from, field_after, fields_from, type_inside, head_within, type_within, type_in}
 use Rattle.avro_schema.proofs.Steps.{bind_Ok, only_if_Ok, at_position_Ok, ok_of}

@@ -4,7 +4,6 @@ ghost use Rattle.std.specs.Fmt.{decimal};
 ghost use Rattle.serde_json.specs.Data.{Data};
 ghost use Rattle.avro_schema.specs.AvroTypes.{type_of, field_of};
 ghost use Rattle.avro_schema.specs.SchemaTexts.{type_in, type_named, type_text};
-ghost use Rattle.table_props.specs.Keys.{key_text};
 ghost use Rattle.table_props.specs.PropsTexts.{IsTold, told_of, line_text, field_name, ordering_line, props_text, read_props};
 ghost use Rattle.table_props.specs.declared.props.PropsError.TheVariants.{Memory};
 ghost use Rattle.table_props.specs.declared.property_key.PropertyKey.TheVariants.{Buckets, TableSchema};

@@ -1,5 +1,5 @@
 // Reading, item by item.
-ghost use Rattle.std.specs.Prelude.{◌≡◌, ◌-◌, ◌≤◌, length, IfOk, OnSome};
+ghost use Rattle.std.specs.Prelude.{◌≡◌, ◌-◌, ◌≤◌, length};
 ghost use Rattle.byte_fields.specs.Varints.{varint_at, zigzag_at};
 ghost use Rattle.byte_fields.specs.Prefixed.{prefixed_at};
 ghost use Rattle.thrift_compact.specs.Heads.{field_at, list_at};

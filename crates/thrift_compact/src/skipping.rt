@@ -1,7 +1,7 @@
 // Passing over a value of any type. The recursion is as deep as containers are nested, which is limited.
-ghost use Rattle.std.specs.Prelude.{◌≡◌, ◌≤◌, ◌<◌, length, IfOk};
+ghost use Rattle.std.specs.Prelude.{◌≡◌, ◌≤◌, ◌<◌};
 ghost use Rattle.byte_fields.specs.Reading.{Gives};
-ghost use Rattle.thrift_compact.specs.Types.{is_boolean, shape_of};
+ghost use Rattle.thrift_compact.specs.Types.{shape_of};
 ghost use Rattle.thrift_compact.specs.Values.{scalar_at, too_deep_at, container_at, item_at, pair_at, times_at, value_at};
 
 use crate::heads::{field_at, list_at, map_at};

@@ -1,4 +1,4 @@
-use Rattle.std.proofs.Common.{◌<◌, ◌++◌, ◌∷◌, [], List, ℕ, length, map, take, Some, sym, ap, subst, refl, ◌∙◌}
+use Rattle.std.proofs.Common.{◌<◌, ◌++◌, ◌∷◌, [], List, ℕ, map, take, Some, sym, ap, subst, refl, ◌∙◌}
 use Rattle.base_file.specs.BaseFiles.{row_key, is_among, keys_differ}
 use Rattle.base_file.specs.KeyTables.{AreUpTo}
 use Rattle.base_file.proofs.KeyLemmas.{key_new, keys_more, keys_end}

@@ -1,4 +1,4 @@
-use Rattle.std.proofs.Common.{List, ℕ, Some, None, option_map, ap, subst, ◌≡◌, [], Bor}
+use Rattle.std.proofs.Common.{List, ℕ, option_map, subst, ◌≡◌, [], Bor}
 use Rattle.std.specs.Prelude.{Option}
 use Rattle.base_file.specs.KeyTables.{AreUpTo}
 use Rattle.base_file.proofs.OrderLemmas.{first_above, next_above}

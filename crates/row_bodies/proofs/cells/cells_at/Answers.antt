@@ -1,7 +1,6 @@
 use Rattle.std.proofs.Common.{◌≡◌, ◌+◌, [], ◌∷◌, ◌++◌, sym, subst, ap, ◌∙◌, arith}
 use Rattle.std.proofs.lemmas.Grind.{common_steps}
 use Rattle.std.proofs.lemmas.List.{map-append}
-use Rattle.hudi_base.specs.declared.value.Value.{Value}
 use Rattle.avro_schema.specs.Reading.{fields_from}
 use Rattle.row_values.specs.Fields.{typed_fields}
 use Rattle.row_values.specs.Cells.{cell_view, cells_view}
