@@ -1,287 +1,251 @@
 #!/usr/bin/env python3
-"""Makes the cases of crates/run_cases: how a run begins, and how it must end by tests/script_model.py, which has its own
-reading of the language, its own blocks and its own fold.
+"""Makes the cases of crates/run_cases: how a run begins, and how it must end by tests/script_model.py, which has its
+own reading of the language, its own files and its own fold. `case_scripts.py`, `case_lines.py` and `case_stops.py` are
+the scripts by subject, `worked_rows.py` the runs whose answers were worked out by hand.
 
 Run: run_cases.py stdin >crates/run_cases/stdin
      run_cases.py stdout >crates/run_cases/stdout
 """
 import json
-import struct
+import re
 import sys
-from script_model import MOST_SCRIPT, block, framed, log_name, run, sized, time_text
 
-SNAPSHOT = '{"job":"snapshot"}\n'
-T0 = 1704067200000
+import case_lines as lines
+import case_scripts as scripts
+import case_stops as stops
+from script_language import MOST_SCRIPT
+from script_lines import INIT, ORDERED, SNAPSHOT, delete, gone, init, key, row, up, upsert
+from script_model import run
+from worked_rows import WORKED, check_model, check_worked
 
-
-def row(key, rank=1, body=""):
-    return '{"key":%s,"rank":%s,"body":%s}' % (json.dumps(key, ensure_ascii=False), rank, json.dumps(body, ensure_ascii=False))
-
-
-def upsert(*rows):
-    return '{"job":"upsert","rows":[%s]}\n' % ",".join(rows)
-
-
-A, B = upsert(row("a")), upsert(row("b"))
-WORKED = (upsert(row("a", 5, "one"), row("b", 1, "two")) + upsert(row("a", 3, "no"), row("b", 1, "new")) + SNAPSHOT)
-MANY = A + SNAPSHOT + B + upsert(row("a", 0, "no"), row("c", 2, "see")) + SNAPSHOT
-
-
-# ---- scripts that run
-
-GOOD = {
-    "worked rows are written and shown": WORKED,
-    "an empty script gives no line": "",
-    "empty lines give no line": "\n\r\n\n",
-    "a snapshot alone": SNAPSHOT,
-    "two snapshots alone": SNAPSHOT + SNAPSHOT,
-    "an upsert alone": A,
-    "snapshots before, between and behind upserts": SNAPSHOT + A + SNAPSHOT + SNAPSHOT + B + A + SNAPSHOT,
-    "of equal ranks the later row of an upsert stays": upsert(row("a", 1, "one"), row("a", 1, "two")) + SNAPSHOT,
-    "of equal ranks the later upsert stays": upsert(row("a", 1, "one")) + upsert(row("a", 1, "two")) + SNAPSHOT,
-    "a later row of a lesser rank loses": upsert(row("a", 2, "one"), row("a", 1, "two")) + SNAPSHOT,
-    "a later upsert of a lesser rank loses": upsert(row("a", 2, "one")) + upsert(row("b"), row("a", 1, "two")) + SNAPSHOT,
-    "a greater rank wins": upsert(row("a", -2, "one")) + upsert(row("a", -1, "two")) + SNAPSHOT,
-    "the ends of the ranks": upsert(row("a", -2**63, "one")) + upsert(row("a", 2**63 - 1, "two")) + SNAPSHOT,
-    "ties at the ends of the ranks": upsert(row("a", -2**63, "one"), row("b", 2**63 - 1, "one"))
-        + upsert(row("a", -2**63, "two"), row("b", 2**63 - 1, "two")) + SNAPSHOT,
-    "the greatest rank of three upserts": upsert(row("a", 1, "one")) + upsert(row("a", 3, "two")) + upsert(row("a", 2, "three"))
-        + SNAPSHOT,
-    "rows stand in the order of their keys' bytes":
-        upsert(*map(row, ["\U0001f600", "\uffff", "b", "a", "ab", "A", "\u00e9", "e"])) + SNAPSHOT,
-    "members in any order, with spaces":
-        '{"rows": [ { "body" : "b" , "rank" : -7 , "key" : "a" } ] , "job" : "upsert" }\n \t' + SNAPSHOT,
-    "the last of members of one name counts":
-        upsert('{"key":"z","rank":9,"body":"no","body":"b","rank":1,"key":"a"}') + SNAPSHOT,
-    "the last counts also behind a wrong one":
-        upsert('{"key":1,"rank":1.5,"body":null,"key":"a","rank":1,"body":"b"}') + SNAPSHOT,
-    "the last job of a line counts": '{"job":"upsert","rows":1,"rows":[%s],"job":"snapshot","job":"upsert"}\n' % row("a") + SNAPSHOT,
-    "escapes within the names": upsert('{"\\u006bey":"a","r\\u0061nk":1,"bod\\u0079":"b"}') + '{"\\u006aob":"snapsho\\u0074"}\n',
-    "escapes that are printed as themselves": upsert('{"key":"\\u00e9\\/","rank":1,"body":"\\u0041"}') + SNAPSHOT,
-    "a pair of code units": upsert('{"key":"\\ud83d\\ude00","rank":1,"body":""}') + SNAPSHOT,
-    "escapes that stay": upsert(row('"', 1, '\\"\n\t\r\b\f')) + SNAPSHOT,
-    "control characters": upsert(row("\0", 1, "\x01\x1f\x7f")) + SNAPSHOT,
-    "an empty body": upsert(row(" ", 0)) + SNAPSHOT,
-    "a carriage return before the line feed": A.replace("\n", "\r\n") + SNAPSHOT.replace("\n", "\r\n"),
-    "no line feed at the end": A + SNAPSHOT[:-1],
-    "of two carriage returns one is white space": SNAPSHOT.replace("\n", "\r\r\n"),
-    "empty lines between, before and behind": "\n" + A + "\n\r\n\n" + SNAPSHOT + "\n\n",
-}
-
-# ---- lines outside the language
-
-BAD_LINES = [
-    "x", "{}", "[]", "null", '"snapshot"', '{"job":"snap"}', '{"job":"Snapshot"}', '{"Job":"snapshot"}', '{"job":1}',
-    '{"job":null}', '{"job":"snapshot","at":1}', '{"job":"snapshot","rows":[]}', '{"job":"snapshot",}',
-    '{"job":"snapshot"} {}', '{"job":"snapshot"', '{"job":"snapshot","job":"upsert"}', '{"job":"upsert"}',
-    '{"job":"upsert","rows":null}', '{"job":"upsert","rows":%s}' % row("a"), '{"job":"upsert","rows":[%s],"lane":1}' % row("a"),
-    '{"job":"upsert","Rows":[%s]}' % row("a"), '{"job":"delete","rows":[%s]}' % row("a"), '{"rows":[%s]}' % row("a"),
-    '{"job":"init"}', " ", "\r\r", "[" * 128, '{"job":\n"snapshot"}',
-]
-BAD_ROWS = [
-    "", "1", "null", "[]", "{}", '"a"', row("a") + ",1", '{"rank":1,"body":""}', '{"key":"a","body":""}',
-    '{"key":"a","rank":1}', '{"key":"a","rank":1,"body":"","more":1}', '{"Key":"a","rank":1,"body":""}',
-    '{"key":"a","key":"b","rank":1}', '{"key":1,"rank":1,"body":""}', '{"key":null,"rank":1,"body":""}',
-    '{"key":["a"],"rank":1,"body":""}', '{"key":"a","rank":"1","body":""}', '{"key":"a","rank":null,"body":""}',
-    '{"key":"a","rank":true,"body":""}', '{"key":"a","rank":1,"body":1}', '{"key":"a","rank":1,"body":null}',
-    '{"key":"a","key":1,"rank":1,"body":""}', row("a", "1.5"), row("a", "1.0"), row("a", "1e2"), row("a", "-0"),
-    row("a", 2**63), row("a", -2**63 - 1), row("a", "01"), row("a", "+1"), '{"key":"\\x","rank":1,"body":""}',
-    '{"key":"a","rank":1,"body":"\\ud83d"}',
-]
-BAD_BYTES = {
-    "a byte that is no text": b'{"job":"snapshot"}\xff\n',
-    "a key cut within a character": b'{"job":"upsert","rows":[{"key":"\xc3","rank":1,"body":""}]}\n',
-    "half a surrogate pair": b'{"job":"upsert","rows":[{"key":"\xed\xa0\x80","rank":1,"body":""}]}\n',
-    "a byte order mark": b'\xef\xbb\xbf{"job":"snapshot"}\n',
-    "a control character within a text": b'{"job":"upsert","rows":[{"key":"\x01","rank":1,"body":""}]}\n',
-    "NUL behind a line": b'{"job":"snapshot"}\0\n',
-    "a carriage return at the very end": b'{"job":"snapshot"}x\r',
-}
-ORDERS = ["x\nx\n", "U\nx\nx\n", "U\n\n\nx\nU\nx\n", "S\nU\nx\n", "S\n\n\r\nx", "S\n \n", "SS\n", "U\nU\n\nSU\n"]
+A, B = up("a"), up("b")
+BEGIN = ("words", "clock", "files", "failing_calls", "prefix", "existing_calls")
+LONG_RUN = re.compile(rb"([\n -~])\1{499,}")
 
 
 # ---- cases
 
+def piece(data):
+    """Bytes as a text, or as hexadecimal digits where they are none."""
+    try:
+        return [data.decode()] if data else []
+    except UnicodeDecodeError:
+        return [{"hex": data.hex()}]
+
+
+def coded(data):
+    """Bytes as a case has them. Of a letter that stands there many times it says how often."""
+    parts, at = [], 0
+    for found in LONG_RUN.finditer(data):
+        parts += piece(data[at:found.start()]) + [{"text": found[1].decode(), "times": len(found[0])}]
+        at = found.end()
+    parts += piece(data[at:])
+    return parts[0] if len(parts) == 1 else parts
+
+
 def case(name, script, **how):
     """A case with its end by the model. The script is bytes, or a text with no line feed changed."""
     data = script.encode() if isinstance(script, str) else script
-    begun = {"name": name, "script": {"hex": data.hex()} if isinstance(script, bytes) else script}
-    ending = run(data, how.get("words", ("run", "1")), how.get("clock", (T0,)), how.get("files", ()),
-                 how.get("failing_calls", ()), how.get("prefix", 0))
-    return {**begun, **how, "status": ending.status, "text": ending.text.decode()}, ending
-
-
-def with_files(name, script, **how):
-    """The same, where the files and the count of the changing calls are looked at too."""
-    made, ending = case(name, script, **how)
-    found = [{"name": file.decode(), "bytes": {"hex": data.hex()}} for file, data in sorted(ending.files.items())]
-    return {**made, "found": found, "calls": ending.calls, "left": 0}
+    ending = run(data, **{member: how[member] for member in BEGIN if member in how})
+    return {"name": name, "script": coded(data), **how, "status": ending.status, "text": coded(ending.text)}, ending
 
 
 def plain(name, script, **how):
     return case(name, script, **how)[0]
 
 
-def repeated(name, parts):
-    """A long script, in parts: texts, and texts that stand there many times."""
-    script = "".join(part if isinstance(part, str) else part["text"] * part["times"] for part in parts)
-    made, _ = case(name, script)
-    text = made["text"]
-    long = max(parts, key=lambda part: 0 if isinstance(part, str) else len(part["text"] * part["times"]))
-    if len(text) > 2000:  # the key or the body stands in the text once
-        head, tail = text.split(long["text"] * long["times"])
-        text = [head, long, tail]
-    return {**made, "script": parts, "text": text}
+def with_files(name, script, **how):
+    """The same, where the files and the count of the changing calls are looked at too."""
+    made, ending = case(name, script, **how)
+    found = [{"name": file.decode(), "bytes": coded(data)} for file, data in sorted(ending.files.items())]
+    return {**made, "found": found, "calls": ending.calls, "left": 0}
 
 
-def limits():
-    for name, text, times in [("a key of no bytes", "k", 0), ("a key of one byte", "k", 1), ("a key of 1,000 bytes", "k", 1000),
-                              ("a key of 1,001 bytes", "k", 1001), ("a key of 500 characters of two bytes", "\u00e9", 500),
-                              ("a key of 501 characters of two bytes", "\u00e9", 501)]:
-        yield repeated(f"limits: {name}", ['{"job":"upsert","rows":[{"key":"', {"text": text, "times": times},
-                                           '","rank":1,"body":""}]}\n' + SNAPSHOT])
-    for name, text, times in [("a body of 65,536 bytes", "b", 65536), ("a body of 65,537 bytes", "b", 65537),
-                              ("a body of 32,768 characters of two bytes", "\u00e9", 32768),
-                              ("a body of 32,769 characters of two bytes", "\u00e9", 32769)]:
-        yield repeated(f"limits: {name}", ['{"job":"upsert","rows":[{"key":"a","rank":1,"body":"', {"text": text, "times": times},
-                                           '"}]}\n' + SNAPSHOT])
-    for name, times in [("an upsert of 100,000 rows", 99999), ("an upsert of 100,001 rows", 100000)]:
-        yield repeated(f"limits: {name}", ['{"job":"upsert","rows":[', {"text": row("a") + ",", "times": times},
-                                           row("a") + "]}\n" + SNAPSHOT])
-    for more in [0, 1]:
-        yield repeated(f"limits: a script of {MOST_SCRIPT + more} bytes",
-                       [{"text": "\n", "times": MOST_SCRIPT - len(SNAPSHOT)}, SNAPSHOT + "\n" * more])
+def worked():
+    check_model()
+    for each in WORKED:
+        _, ending = case("", each.script, **each.how)
+        check_worked(each, ending)
+        yield with_files(f"worked: {each.name}", each.script, **each.how) if each.status < 2 else \
+            plain(f"worked: {each.name}", each.script, **each.how)
 
 
-TIMES = {
-    "the clock stands still": [T0],
-    "the clock goes back": [T0, T0 - 1, -2**63],
-    "the clock goes on, and back by less": [T0, T0 + 10, T0 + 5],
-    "the twenty-ninth of February": [1709251199999, 1709251199999, 0],
-    "the clock begins before the year 2000": [-1, 946684800000, 946684800002],
-    "the clock shows the first time": [946684800001, 946684800001, -2**63],
-    "the last time but one": [253402300799998, T0],
-    "behind the last time": [2**63 - 1, T0],
-}
+# ---- scripts that run
+
+def good():
+    yield plain("an empty script makes no table", "", calls=0)
+    yield plain("empty lines make no table", "\n\r\n\n", calls=0)
+    yield plain("an upsert makes no table", A + SNAPSHOT, calls=0)
+    yield plain("a delete makes no table", gone("a"), calls=0)
+    for name, script in {**scripts.GOOD, **scripts.TEXTS}.items():
+        yield plain(name, script)
+    for subject, table in [("ranks", scripts.RANKS), ("deletes", scripts.DELETES)]:
+        for name, script in table.items():
+            yield with_files(f"{subject}: {name}", ORDERED + script + SNAPSHOT)
+            yield plain(f"{subject}, which don't count: {name}", INIT + script + SNAPSHOT)
+    for name, script in scripts.AT.items():
+        yield plain(f"at: {name}", ORDERED + script)
+    for name, script in scripts.PARTITIONS.items():
+        yield with_files(f"partitions: {name}", INIT + script)
+    for buckets in [1, 2, 3, 7, 1024]:
+        for name, script in buckets_of(buckets):
+            yield with_files(f"{buckets} buckets: {name}", script)
+    for name, script in scripts.schema_cases():
+        yield with_files(f"schema: {name}", script)
+    for name, script in scripts.NESTING.items():
+        yield plain(f"nesting: {name}", script)
+    for name, clock in scripts.TIMES.items():
+        yield plain(f"times: {name}", INIT + A + SNAPSHOT + gone("a") + up("") + A + SNAPSHOT + up("b"), clock=clock)
+
+
+def buckets_of(buckets):
+    made = init(buckets=buckets, ordering="v")
+    keys = ["k%d" % number for number in range(40)]
+    yield "many keys", made + upsert(*(row(name, place) for place, name in enumerate(keys))) + SNAPSHOT
+    yield "two partitions, and deletes", (
+        made + upsert(*(row(name, place, "xy"[place % 2]) for place, name in enumerate(keys[:12])))
+        + delete(*(key(name, part) for name in keys[:12:3] for part in "yx")) + SNAPSHOT + up("k1", 99) + SNAPSHOT)
+    yield "slots at the ends of groups", made + upsert(*map(row, EDGES)) + SNAPSHOT
+
+
+# Keys whose slots are the first or the last of a group, where there are 2, 3 or 7 groups.
+EDGES = ["k27005", "k116485", "k56807", "k6672", "k11219", "k65638", "k73933", "k16514", "k9335", "k40432", "k124155",
+         "k43810", "k25480", "k10530", "k42327", "k70674", "k36550", "k174266", "k11911", "k2359"]
+
+
+# ---- lines outside the language, and rows that are refused
+
+def bad():
+    for line in lines.LINES:
+        yield plain("bad line: " + json.dumps(line)[1:-1][:60], INIT + A + line + "\n" + SNAPSHOT, calls=0)
+    for name, data in lines.BAD_BYTES.items():
+        yield plain(f"bad bytes: {name}", INIT.encode() + data)
+    for name, line in [*lines.init_lines(), *lines.TWO_CAUSES.items()]:
+        yield plain(f"no table: {name}", line + A + SNAPSHOT, calls=0)
+    for name, line in lines.job_lines():
+        yield plain(f"no job: {name}", INIT + line + SNAPSHOT, calls=0)
+    for order in lines.ORDERS:
+        script = order.replace("I", INIT[:-1]).replace("U", A[:-1]).replace("S", SNAPSHOT[:-1])
+        yield plain("first bad line of " + json.dumps(order), script)
+    for name, script in lines.PLACES.items():
+        yield plain(f"first bad line: {name}", script)
+    for name, misfit in lines.misfits():
+        yield plain(f"bad row: {name}", lines.TYPED + upsert(misfit), calls=1)
+    for name, script in lines.REFUSED.items():
+        yield plain(f"bad row: {name}", script)
+
+
+# ---- the outside
+
 WORDS = [[], [""], ["run"], ["1"], ["run", "2"], ["run", "0"], ["run", "01"], ["run", "1 "], ["run", ""], ["Run", "1"],
-         ["1", "run"], ["run", "1", "1"], ["load", "1"]]
+         ["1", "run"], ["run", "1", "1"], ["load", "1"], ["run", "+1"], ["run", "16"], ["--help"]]
 
 
-def stops():
-    """Runs whose source, sink or store fails."""
-    for script, number in [(WORKED, 0), (WORKED, 3), ("x\n", 0), ("x\n", 1), (SNAPSHOT, 3)]:
+def outside():
+    for words in WORDS:
+        yield plain("words: " + json.dumps(words), "x\n", words=words, files=["note"], reads=0)
+    for name, script in [("a table", stops.WRITES), ("a snapshot", SNAPSHOT), ("a bad line", "x\n"), ("no line", "")]:
+        yield plain(f"a store with a file: {name}", script, files=["note"], calls=0, left=0)
+    yield plain("a store with a table", INIT + A, files=[".hoodie/hoodie.properties"], calls=0)
+    for pieces in [1, 2, 7, 100, 65535]:
+        yield plain(f"pieces of {pieces} bytes", stops.WRITES, pieces=pieces, left=0)
+    for script, number in [(stops.WRITES, 0), (stops.WRITES, 3), ("x\n", 0), ("x\n", 1), (SNAPSHOT, 3)]:
         yield {"name": f"read {number} of {len(script)} bytes fails", "script": script, "files": ["note"], "pieces": 5,
                "failing_reads": [number], "status": 5, "text": ""}
-    for name, script, pieces, number, words in [
-            ("write 0 of the rows", WORKED, 1000, 0, ["run", "1"]), ("write 2 of the rows", WORKED, 10, 2, ["run", "1"]),
-            ("write 0 of a bad line", "x\n", 4, 0, ["run", "1"]), ("write 1 of a bad line", "x\n", 4, 1, ["run", "1"]),
-            ("write 0 of the usage", WORKED, 1000, 0, ["run", "2"]), ("write 6 of the usage", WORKED, 1, 6, ["run", "2"])]:
-        ending = run(script.encode(), words)
-        yield {"name": f"{name} fails", "words": words, "script": script, "pieces": pieces, "failing_writes": [number],
-               "status": 6, "text": ending.text[:pieces * number].decode()}
-    ending = run(WORKED.encode())
-    yield {"name": "the last write of the rows fails", "script": WORKED, "pieces": 1, "failing_writes": [len(ending.text) - 1],
-           "status": 6, "text": ending.text[:-1].decode()}
-    for number in range(12):
+    for name, script, pieces, number in [
+            ("write 0 of the rows", stops.WRITES, 1000, 0), ("write 2 of the rows", stops.WRITES, 10, 2),
+            ("write 0 of a bad line", "x\n", 4, 0), ("write 1 of a bad line", "x\n", 4, 1),
+            ("write 0 of no table", SNAPSHOT, 4, 0), ("write 1 of no table", "", 4, 1)]:
+        yield cut(f"{name} fails", script, pieces, number)
+    yield cut("write 0 of the usage fails", INIT, 1000, 0, ("run", "2"))
+    yield cut("write 6 of the usage fails", INIT, 1, 6, ("run", "2"))
+    yield cut("the last write of the rows fails", stops.WRITES, 1, len(run(stops.WRITES.encode()).text) - 1)
+
+
+def cut(name, script, pieces, number, words=("run", "1")):
+    """A run whose output fails at a call, behind so many pieces."""
+    ending = run(script.encode(), words)
+    return {"name": name, "words": words, "script": script, "pieces": pieces, "failing_writes": [number], "status": 6,
+            "text": ending.text[:pieces * number].decode()}
+
+
+def faults():
+    for number in range(stops.MANY_CALLS + 1):
         for prefix in [0, 13, 50]:
-            yield with_files(f"changing call {number} fails and leaves {prefix} bytes", MANY, failing_calls=[number], prefix=prefix)
-    yield with_files("two appends of one upsert's version fail", A + A + A + SNAPSHOT, failing_calls=[2, 5], prefix=13)
-    yield with_files("all calls of the first upsert fail in turn", A * 4 + B + SNAPSHOT, failing_calls=[0, 2, 5, 9], prefix=7)
-    yield with_files("an append fails and leaves all of its block", A + B + SNAPSHOT, failing_calls=[2], prefix=1000)
+            name = f"changing call {number} fails and leaves {prefix} bytes"
+            yield with_files(name, stops.MANY, failing_calls=[number], prefix=prefix)
+    for name, (script, failing, prefix) in stops.FAULTS.items():
+        yield with_files(f"faults: {name}", script, failing_calls=list(failing), prefix=prefix)
+    for name, (script, existing) in stops.EXISTING.items():
+        yield plain(f"a file exists: {name}", script, existing_calls=existing, reads_back="absent")
 
 
-# ---- stores that read back something else
-
-FIRST = upsert(row("a", 5, "one"), row("b", 1, "two"))
-FIRST_ROWS = [(b"a", 5, b"one"), (b"b", 1, b"two")]
-FIRST_BLOCK = block(T0, FIRST_ROWS)
-
-
-def number(value):
-    return struct.pack(">I", value)
-
-
-def changed(data, at, new):
-    return data[:at] + new + data[at + len(new):]
-
-
-def answered(name, answer, told, read=b"bytes 0 0", **how):
+def answered(name, script, answer, told, read=b"bytes 0 0", **how):
     """A run of an upsert and a snapshot over a store that reads back this, with what the snapshot tells."""
-    ending = run((FIRST + SNAPSHOT).encode())
-    head, _, marks = ending.text.partition(b"2 snapshot ")
+    ending = run(script.encode())
+    head, _, marks = ending.text.partition(b"3 snapshot ")
+    assert marks.count(b"read bytes 0 0") == 1, name
     marks = marks.split(b"\n", 1)[1].replace(b"read bytes 0 0", b"read " + read)
     failed = not told.startswith(b"rows")
-    return {"name": f"reads back: {name}", "script": FIRST + SNAPSHOT, "reads_back": answer, **how, "status": int(failed),
-            "text": (head + b"2 snapshot " + told + b"\n" + marks).decode()}
-
-
-def damaged(cause, at):
-    return b"damaged " + log_name(1) + b" %s %d" % (cause, at)
-
-
-def same_size(inner):
-    made = block(T0, [], inner=inner)
-    assert len(made) == len(FIRST_BLOCK)
-    return made
+    return {"name": f"reads back: {name}", "script": coded(script.encode()), "reads_back": answer, **how,
+            "status": int(failed), "text": coded(head + b"3 snapshot " + told + b"\n" + marks)}
 
 
 def answers():
-    missing = b"damaged 1 0"
-    short = b"damaged 2 0"
-    yield answered("a failure", "failed", b"fault", b"fault 0 0")
-    yield answered("no file", "absent", damaged(b"missing", 0), missing)
-    yield answered("no byte", "", damaged(b"short", 0), short)
-    yield answered("a byte too few", {"hex": FIRST_BLOCK[:-1].hex()}, damaged(b"short", 0), short)
-    rows = b"rows " + time_text(T0) + b" "
-    body = sized(b"a") + struct.pack(">q", 5) + sized(b"one") + sized(b"b") + struct.pack(">q", 1) + sized(b"two")
-    for name, data, told in [
-            ("no magic", changed(FIRST_BLOCK, 0, b"x"), damaged(b"log", 0)),
-            ("another size at the end", changed(FIRST_BLOCK, 128, b"\x7a"), damaged(b"log", 121)),
-            ("a length that isn't there", changed(FIRST_BLOCK, 6, b"\x80"), rows + b"[]"),
-            ("a pending instant's block", block(T0 + 1, FIRST_ROWS), rows + b"[]"),
-            ("content version 2", same_size(number(2) + number(2) + body), damaged(b"content", 0)),
-            ("a row too many", same_size(number(3) + number(3) + body), damaged(b"content", 0)),
-            ("a row too few", same_size(number(3) + number(1) + body), damaged(b"content", 0)),
-            ("no row", same_size(number(3) + number(0) + body), damaged(b"content", 0)),
-            ("a body that ends too soon", same_size(number(3) + number(2) + body[:-4] + b"\x04two"), damaged(b"content", 0)),
-            ("a key that is no text", same_size(number(3) + number(2) + body.replace(b"a", b"\xff", 1)), damaged(b"content", 0)),
-            ("a body that is no text", same_size(number(3) + number(2) + body.replace(b"two", b"tw\xff")), damaged(b"content", 0))]:
-        yield answered(name, {"hex": data.hex()}, told)
-    for rank in [-2**63, -2, 258, 2**63 - 1]:
-        ending = run((upsert(row("a", rank, "one"), row("b", 1, "two")) + SNAPSHOT).encode())
-        told = ending.text.split(b"2 snapshot ")[1].split(b"\n")[0]
-        yield answered(f"rank {rank}", {"hex": block(T0, [(b"a", rank, b"one"), (b"b", 1, b"two")]).hex()}, told)
-    yield {"name": "a listing fails", "script": FIRST + SNAPSHOT, "reads_back": "absent", "listing_fails": True, "status": 4,
-           "text": ""}
+    script = stops.script_with_block_of(len(stops.FIRST))
+    missing, short = b"damaged 1 0", b"damaged 2 0"
+    yield answered("a failure", script, "failed", b"fault", b"fault 0 0")
+    yield answered("no file", script, "absent", stops.damaged(b"missing", 0), missing)
+    yield answered("no byte", script, "", stops.damaged(b"short", 0), short)
+    yield answered("a byte too few", script, coded(stops.FIRST[:-1]), stops.damaged(b"short", 0), short)
+    for subject, table in [("", stops.LOGS), ("content: ", stops.CONTENTS), ("deletes: ", stops.DELETES)]:
+        for name, (data, told) in table.items():
+            yield answered(subject + name, stops.script_with_block_of(len(data)), coded(data), told)
+    for name, script in [("a listing fails", INIT + SNAPSHOT), ("a listing fails where no table is made", SNAPSHOT)]:
+        yield {"name": name, "script": script, "reads_back": "absent", "listing_fails": True, "status": 4, "text": ""}
 
 
-def cases():
-    for name, script in GOOD.items():
-        yield plain(name, script)
-    yield with_files("worked rows, with the files that they leave", WORKED)
-    for line in BAD_LINES:
-        yield plain("bad line: " + json.dumps(line)[1:-1][:60], A + line + "\n" + SNAPSHOT)
-    for rows in BAD_ROWS:
-        yield plain(f"bad rows: [{rows}]", '{"job":"upsert","rows":[%s]}\n' % rows + SNAPSHOT)
-    for name, data in BAD_BYTES.items():
-        yield plain(f"bad bytes: {name}", data)
-    for order in ORDERS:
-        yield plain("first bad line of " + json.dumps(order), order.replace("U", A[:-1]).replace("S", SNAPSHOT[:-1]))
-    yield from limits()
-    for name, clock in TIMES.items():
-        yield plain(f"times: {name}", A + B + A + SNAPSHOT, clock=clock)
-    for words in WORDS:
-        yield plain("words: " + json.dumps(words), "x\n", words=words, files=["note"], reads=0)
-    for name, script in [("rows", WORKED), ("a snapshot", SNAPSHOT), ("a bad line", "x\n"), ("no line", "")]:
-        yield plain(f"a store with a file: {name}", script, files=["note"], calls=0, left=0)
-    for pieces in [1, 2, 7, 100, 65535]:
-        yield plain(f"pieces of {pieces} bytes", WORKED, pieces=pieces, left=0)
-    yield from stops()
-    yield from answers()
+# ---- limits
+
+def repeated(name, parts, **how):
+    """A long script, in parts: texts, and texts that stand there many times."""
+    script = "".join(part if isinstance(part, str) else part["text"] * part["times"] for part in parts)
+    made, _ = case(name, script, **how)
+    return {**made, "script": parts}
 
 
-for each in cases():
-    if sys.argv[1] == "stdin":
-        print(json.dumps(each, ensure_ascii=False, separators=(",", ":")))
-    else:
-        print(f"ok {each['name']}")
+def many(text, times):
+    return {"text": text, "times": times}
+
+
+ROWS, KEYS, END = '{"job":"upsert","rows":[', '{"job":"delete","keys":[', "]}\n" + SNAPSHOT
+
+
+def limits():
+    for times in [99999, 100000]:
+        yield repeated(f"limits: {times + 1:,} rows", [INIT + ROWS, many(row("a") + ",", times), row("b") + END])
+        yield repeated(f"limits: {times + 1:,} keys", [INIT + KEYS, many(key("a") + ",", times), key("b") + END])
+    long = lines.text_row(6600)
+    yield repeated("limits: a log that is read in three pieces",
+                   [lines.BODIES + ROWS, many(long + ",", 5300), long + END])
+    rest = MOST_SCRIPT - len(INIT + SNAPSHOT)
+    for more in [0, 1]:
+        yield repeated(f"limits: a script of {MOST_SCRIPT + more:,} bytes",
+                       [INIT, many("\n" * 1024, rest // 1024), "\n" * (rest % 1024 + more) + SNAPSHOT])
+
+
+# The heaviest ones come last.
+SUBJECTS = [worked, good, bad, outside, faults, answers, limits]
+
+
+def main(form, subjects):
+    for subject in SUBJECTS:
+        if subjects and subject.__name__ not in subjects:
+            continue
+        for each in subject():
+            line = json.dumps(each, ensure_ascii=False, separators=(",", ":"))
+            print(line if form == "stdin" else f"ok {each['name']}")
+
+
+if __name__ == "__main__":
+    main(sys.argv[1], sys.argv[2:])

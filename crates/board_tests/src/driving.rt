@@ -2,6 +2,7 @@
 ghost use Rattle.std.specs.Prelude.{◌≡◌, [], IfOk, OnOk};
 ghost use Rattle.board_tests.specs.Lanes.{AreSlots, HasDrawn, HasFailed, IsFresh, IsWriting, KeepsFresh};
 
+use avro_schema::Schema;
 use hudi_base::{Bytes, InstantTime, Name, Sequence};
 use log_block::{Block, write_block};
 use std::alloc::{AllocError, Global};
@@ -10,6 +11,7 @@ use table_board::{Board, Solo};
 use table_core::Control;
 use table_forms::is_partition_path;
 use table_history::{Job, PartitionSlots, Reply, Step, Steps, Work};
+use table_props::Props;
 
 /// Jobs that may write anything.
 #[derive(Drop)]
@@ -31,7 +33,16 @@ pub(crate) fn fresh(
 ) -> Result<MemBoard, AllocError>
     ensures { IfOk result (λ board. board.entries ≡ []) }
 {
-    let control = Control::fresh(alloc, Name::from_text(alloc, "t")?, 1);
+    // No step looks at the schema.
+    let props = Props {
+        name: Name::from_text(alloc, "t")?,
+        schema: Schema::Null,
+        key: 0,
+        partition: 0,
+        ordering: None,
+        buckets: 1,
+    };
+    let control = Control::fresh(alloc, props);
     let store = MemStore::with_failures(alloc, failing, prefix);
     let clock = MemClock::at(1_704_067_200_000);
     Ok(Board::new(alloc, store, clock, control))

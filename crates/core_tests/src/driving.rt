@@ -6,18 +6,28 @@ ghost use Rattle.key_index.specs.Tiling.{IsBuckets};
 ghost use Rattle.table_core.specs.ControlTables.{IsAsked};
 
 use crate::telling::{NOW, tell};
+use avro_schema::Schema;
 use hudi_base::{Bytes, InstantTime, Name, Sequence};
 use std::alloc::{AllocError, Global};
 use table_core::Control;
 use table_forms::is_partition_path;
 use table_history::{Entry, Job, PartitionSlots, Reader, Reply, Step, View};
+use table_props::Props;
 
 pub(crate) fn fresh_with(alloc: Global, buckets: u16) -> Result<Control, AllocError>
     requires { IsBuckets buckets }
     ensures { IfOk result HasPast }
 {
-    let table = Name::from_text(alloc, "t")?;
-    Ok(Control::fresh(alloc, table, buckets))
+    // No step looks at the schema.
+    let props = Props {
+        name: Name::from_text(alloc, "t")?,
+        schema: Schema::Null,
+        key: 0,
+        partition: 0,
+        ordering: None,
+        buckets,
+    };
+    Ok(Control::fresh(alloc, props))
 }
 
 pub(crate) fn fresh(alloc: Global) -> Result<Control, AllocError>

@@ -1,12 +1,11 @@
 //! `hudi DIR run LANES`: runs a script of JSON lines over the table in a folder.
 //!
-//! It hands the folder, the standard streams, the system's clock and the codec of the table to `hudi_run_solo` of
-//! `script_run`, whose contract says what a run does.
+//! It hands the folder, the standard streams and the system's clock to `hudi_run_solo` of `script_run`, whose contract
+//! says what a run does.
 #![tactic(auto)]
 
 ghost use Rattle.std.specs.Prelude.{◌≢◌, [], IfOk, string_bytes};
 
-use plain_rows::PlainRows;
 use script_run::{OUT_OF_MEMORY, hudi_run_solo};
 use std::alloc::{AllocError, Global};
 use std::env;
@@ -28,9 +27,6 @@ fn main(rt: HostRuntime) -> ExitCode {
     let Ok(folder) = take_folder(alloc, &mut words) else {
         return ExitCode::from(OUT_OF_MEMORY);
     };
-    let Ok(codec) = PlainRows::new(alloc) else {
-        return ExitCode::from(OUT_OF_MEMORY);
-    };
     let store = DirStore::new(rt, folder);
     let clock = SystemClock::new(rt);
     let mut input = StdinSource::new(rt.reader());
@@ -38,7 +34,6 @@ fn main(rt: HostRuntime) -> ExitCode {
     let (status, _, _) = hudi_run_solo(
         alloc,
         words.as_slice(),
-        &codec,
         store,
         clock,
         &mut input,

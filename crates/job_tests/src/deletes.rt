@@ -2,6 +2,7 @@
 ghost use Rattle.std.specs.Prelude.{◌<◌, ◌^◌, All, IfOk, length};
 ghost use Rattle.plain_rows.specs.PlainValues.{IsPlainValue};
 ghost use Rattle.upsert_writer.specs.BatchFits.{BatchFits, IsFit};
+ghost use Rattle.job_tests.specs.NewJobs.{IsOfTable};
 
 use crate::driving::{MemBoard, Open, fresh, is_new, query, write};
 use hudi_base::{Bytes, InstantTime, Name, Sequence, Value, Values};
@@ -179,7 +180,10 @@ fn done(
     codec: &PlainRows,
     line: u32,
     act: &Act,
-) -> Result<(MemBoard, JobReply), AllocError> {
+) -> Result<(MemBoard, JobReply), AllocError>
+    requires { IsOfTable board.origin }
+    ensures { IfOk result (λ after. IsOfTable after.0.origin) }
+{
     if !is_new(&board, line) {
         return Err(AllocError);
     }
@@ -245,7 +249,8 @@ fn mistold(alloc: Global, story: Story) -> Result<Option<u32>, Fail> {
     let codec = PlainRows::new(alloc)?;
     let mut board = fresh(alloc, Sequence::new(alloc), 0)?;
     let mut line: u32 = 0;
-    for (act, want) in story {
+    for told in story {
+        let (act, want) = told;
         line = line.saturating_add(1);
         let (after, reply) = done(alloc, board, &codec, line, act)?;
         board = after;

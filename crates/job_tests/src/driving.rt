@@ -1,10 +1,11 @@
 // Jobs of scripts on a table in memory.
-ghost use Rattle.std.specs.Prelude.{◌≡◌, [], All, IfOk, IsTrue};
+ghost use Rattle.std.specs.Prelude.{◌≡◌, ◌≤◌, [], All, IfOk, IsTrue};
 ghost use Rattle.job_script.specs.Rows.{AreSized, HasSizes, IsSized};
 ghost use Rattle.plain_rows.specs.PlainValues.{IsPlainValue};
 ghost use Rattle.upsert_writer.specs.BatchFits.{BatchFits};
-ghost use Rattle.job_tests.specs.NewJobs.{IsNew, are_given};
+ghost use Rattle.job_tests.specs.NewJobs.{IsNew, IsOfTable, are_given};
 
+use avro_schema::Schema;
 use hudi_base::{Gate, Name, Place, Sequence};
 use job_script::{
     InputRow, Line, ScriptJob, parse_script, put_job_text, put_mark_text, scripts_have_sizes,
@@ -16,6 +17,7 @@ use store_mem::{MemClock, MemStore};
 use table_board::{Board, Solo};
 use table_core::{Control, JobReply};
 use table_history::Work;
+use table_props::Props;
 use table_query::snapshot;
 use upsert_writer::{Batch, PutRow, PutRows, write_batch};
 
@@ -39,16 +41,38 @@ impl Gate for Open {
 
 pub(crate) type MemBoard = Board<MemStore, MemClock, AnyWork>;
 
-/// A table without instants, over a store whose changing calls of these numbers fail, at the beginning of 2024.
+/// A table without instants over a store, at the beginning of 2024, whose partitions begin with so many groups.
+pub(crate) fn fresh_over(
+    alloc: Global,
+    store: MemStore,
+    buckets: u16,
+) -> Result<MemBoard, AllocError>
+    requires { (1 ≤ buckets) × (buckets ≤ 1024) }
+    ensures { IfOk result (λ board. IsOfTable board.origin) }
+{
+    // No step looks at the schema.
+    let props = Props {
+        name: Name::from_text(alloc, "r1")?,
+        schema: Schema::Null,
+        key: 0,
+        partition: 0,
+        ordering: None,
+        buckets,
+    };
+    let control = Control::fresh(alloc, props);
+    let clock = MemClock::at(1_704_067_200_000);
+    Ok(Board::new(alloc, store, clock, control))
+}
+
+/// Such a table with one group, over a store whose changing calls of these numbers fail.
 pub(crate) fn fresh(
     alloc: Global,
     failing: Sequence<u64>,
     prefix: u64,
-) -> Result<MemBoard, AllocError> {
-    let control = Control::fresh(alloc, Name::from_text(alloc, "r1")?, 1);
-    let store = MemStore::with_failures(alloc, failing, prefix);
-    let clock = MemClock::at(1_704_067_200_000);
-    Ok(Board::new(alloc, store, clock, control))
+) -> Result<MemBoard, AllocError>
+    ensures { IfOk result (λ board. IsOfTable board.origin) }
+{
+    fresh_over(alloc, MemStore::with_failures(alloc, failing, prefix), 1)
 }
 
 /// Whether the job of this line has made no entry.
@@ -75,6 +99,8 @@ pub(crate) fn write<G: Gate>(
 ) -> (MemBoard, JobReply)
     requires new { IsNew line board.entries }
     requires fits { BatchFits IsPlainValue batch }
+    requires of_the_table { IsOfTable board.origin }
+    ensures { IsOfTable result.0.origin }
 {
     let mut solo = Solo::new(board);
     solo.set_job(1, line);
@@ -105,6 +131,8 @@ fn upsert<G: Gate>(
 ) -> Result<(MemBoard, JobReply), AllocError>
     requires new { IsNew line board.entries }
     requires sized { AreSized rows }
+    requires of_the_table { IsOfTable board.origin }
+    ensures { IfOk result (λ after. IsOfTable after.0.origin) }
 {
     let given = given_rows(alloc, rows.as_slice())?;
     Ok(write(alloc, board, codec, line, Batch::Puts(given), gate))
@@ -118,7 +146,9 @@ pub(crate) fn query<G: Gate>(
     line: u32,
     gate: &G,
 ) -> (MemBoard, JobReply)
-    requires { IsNew line board.entries }
+    requires new { IsNew line board.entries }
+    requires of_the_table { IsOfTable board.origin }
+    ensures { IsOfTable result.0.origin }
 {
     let mut solo = Solo::new(board);
     solo.set_job(1, line);
@@ -135,7 +165,9 @@ fn run_job<G: Gate>(
     gate: &G,
     out: &mut Vec<u8>,
 ) -> Result<MemBoard, AllocError>
-    requires { HasSizes job }
+    requires sized { HasSizes job }
+    requires of_the_table { IsOfTable board.origin }
+    ensures { IfOk result (λ board. IsOfTable board.origin) }
 {
     let ScriptJob { number, line } = job;
     if !is_new(&board, number) {
@@ -174,7 +206,9 @@ pub(crate) fn run<G: Gate>(
     board: MemBoard,
     script: &str,
     gate: &G,
-) -> Result<(MemBoard, Vec<u8>), AllocError> {
+) -> Result<(MemBoard, Vec<u8>), AllocError>
+    requires { IsOfTable board.origin }
+{
     let codec = PlainRows::new(alloc)?;
     let mut board = board;
     let mut out = Vec::new(alloc);

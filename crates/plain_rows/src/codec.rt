@@ -130,7 +130,11 @@ impl RowCodec for PlainRows {
 
 impl TableCodec for PlainRows {
     ghost use Rattle.std.specs.Prelude.{true};
+    ghost use Rattle.std.proofs.Common.{sym};
     ghost use Rattle.plain_rows.specs.NewRowLaws.{made_own};
+
+    // Its rows are of no schema that properties tell, so it goes by the name alone.
+    ghost is_of = { λ _ props. props.name ≡ codes "r1" };
 
     ghost table_name = { λ _. codes "r1" };
 
@@ -159,4 +163,6 @@ impl TableCodec for PlainRows {
     }
 
     ghost new_rows_are_own = { λ _. made_own };
+
+    ghost name_is_told = { λ _ props is. sym is };
 }

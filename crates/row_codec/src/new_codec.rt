@@ -9,7 +9,8 @@ ghost use Rattle.row_values.specs.JsonRows.{AnswersValue};
 ghost use Rattle.row_values.specs.Layouts.{has_typed_places, own_type};
 ghost use Rattle.row_values.specs.RowCells.{AnswersRow};
 ghost use Rattle.row_records.specs.Records.{record_type};
-ghost use Rattle.row_codec.specs.Codec.{AnswersCodec};
+ghost use Rattle.row_codec.specs.Codec.{AnswersCodec, IsOfTable};
+ghost use Rattle.table_props.specs.PropsTexts.{told_of};
 
 use crate::flat_codec::FlatCodec;
 use crate::schema::record_schema;
@@ -57,7 +58,8 @@ impl FlatCodec {
     /// other error is want of memory.
     pub fn new(alloc: Global, props: &Props) -> Result<FlatCodec, RowError>
         requires { has_typed_places props.now ≡ true }
-        ensures { AnswersCodec props.now result }
+        ensures answer { AnswersCodec props.now result }
+        ensures table { IfOk result (λ codec. IsOfTable codec.records.own (told_of props.now)) }
     {
         match RowLayout::new(alloc, props) {
             Ok(layout) => Ok(codec_of(alloc, layout)?),

@@ -11,8 +11,11 @@ impl TableCodec for FlatCodec {
     ghost use Rattle.avro_schema.specs.SchemaTexts.{type_text};
     ghost use Rattle.row_records.specs.Records.{record_type};
     ghost use Rattle.row_values.specs.Layouts.{own_type};
+    ghost use Rattle.row_codec.specs.Codec.{IsOfTable};
     ghost use Rattle.row_codec.specs.NewRows.{row_in};
     ghost use Rattle.row_codec.specs.NewRowLaws.{made_own};
+
+    ghost is_of = { λ codec. IsOfTable codec.records.own };
 
     ghost table_name = { λ codec. codec.records.own.table };
 
@@ -41,4 +44,6 @@ impl TableCodec for FlatCodec {
     }
 
     ghost new_rows_are_own = { λ codec. made_own codec.records.own };
+
+    ghost name_is_told = { λ codec props is. is.table };
 }

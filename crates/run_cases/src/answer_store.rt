@@ -1,5 +1,5 @@
 // A store that answers listings and reads as it is told to, whatever was done to it.
-ghost use Rattle.std.specs.Prelude.{None};
+ghost use Rattle.std.specs.Prelude.{◌≡◌, None};
 
 use crate::case::Answer;
 use hudi_base::{Added, FaultCount, Fetched, Gone, Listed, Made, Name, Sequence, Store};
@@ -8,9 +8,33 @@ use std::alloc::Global;
 /// A store without files, which takes what it is given to no effect. It tells nothing and isn't honest.
 #[derive(Drop)]
 pub struct AnswerStore<'a> {
-    pub answer: &'a Answer,
-    pub listing_fails: bool,
-    pub faults: FaultCount,
+    answer: &'a Answer,
+    existing: &'a [u64],
+    listing_fails: bool,
+    calls: u64,
+    faults: FaultCount,
+}
+
+impl<'a> AnswerStore<'a> {
+    /// A store that reads back this, and to which the files of the changing calls of some numbers exist.
+    pub fn new(answer: &'a Answer, existing: &'a [u64], listing_fails: bool) -> AnswerStore<'a> {
+        AnswerStore {
+            answer,
+            existing,
+            listing_fails,
+            calls: 0,
+            faults: FaultCount::new(),
+        }
+    }
+
+    // The number of a changing call, from 0.
+    fn next_call(&mut self) -> u64
+        ensures { self.new.faults ≡ self.old.faults }
+    {
+        let number = self.calls;
+        self.calls = number.saturating_add(1);
+        number
+    }
 }
 
 impl Store for AnswerStore<'_> {
@@ -43,14 +67,20 @@ impl Store for AnswerStore<'_> {
     }
 
     fn create(&mut self, _alloc: Global, _name: &Name, _bytes: &[u8]) -> Made {
+        let number = self.next_call();
+        if self.existing.contains(&number) {
+            return Made::Exists;
+        }
         Made::Created
     }
 
     fn append(&mut self, _alloc: Global, _name: &Name, _bytes: &[u8]) -> Added {
+        let _number = self.next_call();
         Added::Added
     }
 
     fn remove(&mut self, _alloc: Global, _name: &Name) -> Gone {
+        let _number = self.next_call();
         Gone::Removed
     }
 

@@ -56,6 +56,9 @@ pub struct Case {
     pub prefix: u64,
     /// `files`, the names of empty files that are there.
     pub files: Vec<String>,
+    /// `existing_calls`: the changing calls, from 0, of a store that reads back something else which answer that their file
+    /// exists.
+    pub existing_calls: Sequence<u64>,
     /// `listing_fails`: whether a store that reads back something else can't be listed either.
     pub listing_fails: bool,
     /// `reads_back`: `absent`, `failed`, or the bytes that any read gives, from a store that keeps nothing.
@@ -81,6 +84,7 @@ impl Case {
             failing_calls: numbers_at(alloc, &value, "failing_calls")?,
             prefix: number_at(&value, "prefix").unwrap_or(0),
             files: texts_at(alloc, &value, "files")?,
+            existing_calls: numbers_at(alloc, &value, "existing_calls")?,
             listing_fails: value.get("listing_fails").is_some(),
             answer: answer_of(alloc, &value)?,
             expected: expected_of(alloc, &value)?,

@@ -3,8 +3,7 @@ use crate::answer_store::AnswerStore;
 use crate::case::{Answer, Case};
 use crate::turn_clock::TurnClock;
 use anyhow::Result;
-use hudi_base::{Bytes, FaultCount, Name, Sequence, Store};
-use plain_rows::PlainRows;
+use hudi_base::{Bytes, Name, Sequence, Store};
 use script_run::hudi_run_solo;
 use std::alloc::Global;
 use store_mem::{MemSink, MemSource, MemStore};
@@ -38,11 +37,7 @@ pub fn run(alloc: Global, case: &Case) -> Result<Ended> {
 
 // Runs a case over a store that answers as it is told to.
 fn run_answered(alloc: Global, case: &Case, answer: &Answer) -> Result<Ended> {
-    let store = AnswerStore {
-        answer,
-        listing_fails: case.listing_fails,
-        faults: FaultCount::new(),
-    };
+    let store = AnswerStore::new(answer, case.existing_calls.as_slice(), case.listing_fails);
     let (ended, _) = run_over(alloc, case, store)?;
     Ok(ended)
 }
@@ -55,11 +50,9 @@ fn run_over<S: Store + Drop>(alloc: Global, case: &Case, store: S) -> Result<(En
     let failing = copy(alloc, &case.failing_writes)?;
     let mut output = MemSink::new(alloc, OUTPUT_CAPACITY, pieces, failing)?;
     let clock = TurnClock::new(&case.clock);
-    let codec = PlainRows::new(alloc)?;
     let (status, store, _) = hudi_run_solo(
         alloc,
         &case.words,
-        &codec,
         store,
         clock,
         &mut input,

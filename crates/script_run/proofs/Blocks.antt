@@ -1,5 +1,6 @@
 -- What the jobs of a run may write are whole blocks of their instants.
-use Rattle.std.proofs.Common.{◌≡◌, ◌==◌, ℕ, List, true, arith}
+use Rattle.std.proofs.Common.{◌≡◌, ◌==◌, ℕ, List, Result, Ok, Err, true, arith}
+use Rattle.std.specs.Prelude.{IfOk}
 use Rattle.std.proofs.lemmas.Bool.Decides.{nat_tests}
 use Rattle.hudi_base.specs.declared.file_group.GroupRef.{GroupRef}
 use Rattle.log_block.specs.declared.block.Block.{Block}
@@ -7,7 +8,11 @@ use Rattle.log_block.specs.declared.block.Block.TheVariants.{Data, Delete, Rollb
 use Rattle.payload_merge.specs.declared.row.Write.{Write}
 use Rattle.table_images.specs.Blocks.{HoldsBlocks}
 use Rattle.table_images.specs.Chains.{is_write_of}
-use Rattle.upsert_writer.specs.Blocks.{BlockForm, Holds}
+use Rattle.table_history.specs.declared.job.Job.{Job}
+use Rattle.table_history.specs.declared.step.PartitionSlots.{PartitionSlots}
+use Rattle.upsert_writer.specs.Batches.{Refusal}
+use Rattle.upsert_writer.specs.Blocks.{BlockForm, Holds, HoldsEach}
+use Rattle.upsert_writer.specs.Slots.{AreSlotsOf}
 use Rattle.script_run.specs.Batches.{any_batch}
 
 same_time : (t u : ℕ) → u ≡ t → (u == t) ≡ true
@@ -24,3 +29,13 @@ holds_blocks = record {
       let has = holds.1.1 in
       record { block = has.block; fits = has.fits; is = has.is; write = written holds.0 t s.group _ has.block has.holds };
 }
+
+-- ---- any batch may be asked for
+
+pub any_asked : (job : Job) (made : Result (List Write) Refusal) → IfOk made (λ batch. (slots : List PartitionSlots) → AreSlotsOf batch slots → any_batch.Asks job slots)
+any_asked job (Ok batch) = λ slots are. (batch, are)
+any_asked job (Err refusal) = tt
+
+pub any_held : (job : Job) (form : BlockForm) (made : Result (List Write) Refusal) → IfOk made (HoldsEach any_batch.Holds job form)
+any_held job form (Ok batch) = λ t s writes bytes is. (form, (batch, is))
+any_held job form (Err refusal) = tt

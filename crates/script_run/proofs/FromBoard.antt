@@ -1,41 +1,28 @@
--- From what a board says of itself to what is said of a run.
-use Rattle.std.proofs.Common.{◌≡◌, List, ◌++◌, length, take, Option, Some, IfSome, sym, ap, ◌∙◌, subst}
-use Rattle.std.specs.Prelude.{is_some}
+-- A board that stood when it was made still does.
+use Rattle.std.proofs.Common.{◌≡◌, ℕ, List, ◌++◌, length, take, Some, sym, ap, ◌∙◌, subst, arith}
 use Rattle.std.proofs.Math.Seq.{take-append_seam}
-use Rattle.std.specs.FinMap.{empty}
-use Rattle.hudi_base.specs.Files.{FileMap, IsReplay, Told, changed_all}
+use Rattle.std.proofs.lemmas.List.{take_all}
+use Rattle.hudi_base.specs.Files.{FileMap, Told, changed_all}
 use Rattle.hudi_base.specs.declared.operation.Operation.{Operation}
-use Rattle.key_index.specs.Tiling.{IsBuckets}
-use Rattle.table_board.specs.Boards.{Origin, table_of}
 use Rattle.table_board.specs.HonestRuns.{Stood, files_then}
 use Rattle.table_board.specs.Later.{ToldLater}
+use Rattle.table_history.specs.Tables.{Table}
 use Rattle.table_images.specs.Stands.{IsJustOpened, StandsFor}
 use Rattle.table_images.proofs.Lines.{some_same}
-use Rattle.table_images.proofs.Opened.{fresh_just_opened, fresh_stands}
-use Rattle.script_run.specs.Runs.{IsHonestFresh}
 
-replay_is : (o : Option FileMap) (p : Option (List Operation)) (q : Option FileMap) (files start : FileMap) (operations : List Operation) → o ≡ Some files → p ≡ Some operations → q ≡ Some start
-    → IfSome o (λ files. IfSome p (λ operations. IfSome q (λ first. files ≡ changed_all first operations))) → files ≡ changed_all start operations
-replay_is o p q files start operations at is first replay =
-    subst (λ (q : Option FileMap). IfSome q (λ first. files ≡ changed_all first operations)) first
-    (subst (λ (p : Option (List Operation)). IfSome p (λ operations. IfSome q (λ first. files ≡ changed_all first operations))) is
-    (subst (λ (o : Option FileMap). IfSome o (λ files. IfSome p (λ operations. IfSome q (λ first. files ≡ changed_all first operations)))) at replay))
-
--- A store that was honest and fresh when the board was made is one on which the board stood.
-pub stood : (origin : Origin) (was is : Type 0) (old new : Told) (start : FileMap) (before now : List Operation) → IsBuckets origin.buckets → IsHonestFresh was old start before → IsReplay old → ToldLater was old new → (was → is)
-    → origin.done ≡ length before → new.operations ≡ Some now → Stood is new (table_of origin) origin.done start now
-stood origin was is old new start before now fit fresh_store replay later same count tells =
-    let more = later.operations fresh_store.honest before fresh_store.operations in
+pub stood_on : (A : Table) (was is : Type 0) (old new : Told) (done : ℕ) (start : FileMap) (before now : List Operation) → Stood was old A done start before → done ≡ length before
+    → ToldLater was old new → (was → is) → new.operations ≡ Some now → Stood is new A done start now
+stood_on A was is old new done start before now stood count later same tells =
+    let more = later.operations stood.honest before stood.tells_operations in
     let now_is : now ≡ before ++ more.0 = some_same (sym tells ∙ more.1) in
-    let first_are : take origin.done now ≡ before =
-    ap (λ n. take n now) count ∙ ap (take (length before)) now_is ∙ take-append_seam before more.0 in
-    let files_are : files_then start origin.done now ≡ empty =
-    ap (changed_all start) first_are ∙ sym (replay_is old.files old.operations old.first empty start before fresh_store.files fresh_store.operations fresh_store.first replay) in
+    let first_are : take done now ≡ before = ap (λ n. take n now) count ∙ ap (take (length before)) now_is ∙ take-append_seam before more.0 in
+    let all : take done before ≡ before = take_all done before (omega (arith, count)) in
+    let files_are : files_then start done now ≡ files_then start done before = ap (changed_all start) (first_are ∙ sym all) in
     record {
-      honest = same fresh_store.honest;
-      tells_files = later.files ∙ ap is_some fresh_store.files;
+      honest = same stood.honest;
+      tells_files = later.files ∙ stood.tells_files;
       tells_operations = tells;
-      tells_first = later.first ∙ fresh_store.first;
-      stands = subst (λ (files : FileMap). StandsFor files (table_of origin) 0) (sym files_are) (fresh_stands origin.name origin.buckets fit);
-      opened = subst (λ (files : FileMap). IsJustOpened files (table_of origin)) (sym files_are) (fresh_just_opened origin.name origin.buckets);
+      tells_first = later.first ∙ stood.tells_first;
+      stands = subst (λ (files : FileMap). StandsFor files A 0) (sym files_are) stood.stands;
+      opened = subst (λ (files : FileMap). IsJustOpened files A) (sym files_are) stood.opened;
     }

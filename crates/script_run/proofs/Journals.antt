@@ -4,7 +4,7 @@ use Rattle.std.specs.Prelude.{OnErr}
 use Rattle.std.proofs.lemmas.List.{take-append-drop}
 use Rattle.std.proofs.Math.Seq.{take-suc}
 use Rattle.table_history.specs.declared.entry.Mark.{Mark}
-use Rattle.job_script.specs.Marks.{mark_text, marks_text}
+use Rattle.script_texts.specs.Marks.{mark_text, marks_text}
 
 pub marks_text-append : (before after : List Mark) → marks_text (before ++ after) ≡ marks_text before ++ marks_text after
 marks_text-append [] after = refl

@@ -1,14 +1,15 @@
-pub mod Batched
 pub mod Blocks
 pub mod Closing
 pub mod EndParts
 pub mod Endings
 pub mod FromBoard
+pub mod Given
 pub mod Journals
 pub mod LaterBoards
 pub mod Meanings
+pub mod Ready
+pub mod Rising
 pub mod Runs
-pub mod Sizes
 pub mod Snapshots
 pub mod Tellings
 pub mod Turns

@@ -1,9 +1,8 @@
 -- What a job's own entries tell of damage and of faults.
-use Rattle.std.proofs.Common.{◌≡◌, ℕ, ◌+◌, ◌≤◌, List, [], ◌∷◌, Option, Some, None, IfSome, Result, Ok, Err, sym, ap, subst, arith}
+use Rattle.std.proofs.Common.{◌≡◌, inl, inr, ℕ, ◌+◌, ◌≤◌, List, [], ◌∷◌, Option, Some, None, IfSome, Result, Ok, Err, sym, ap, subst, arith}
 use Rattle.std.specs.List.{AllByRecursion}
-use Rattle.job_script.specs.declared.script.Line.{Line}
-use Rattle.job_script.specs.declared.script.Line.TheVariants.{Upsert, Snapshot}
 use Rattle.payload_merge.specs.declared.row.Write.{Write}
+use Rattle.script_jobs.specs.Jobs.{Said, init, upsert, delete, snapshot}
 use Rattle.table_board.specs.Boards.{fault_of, faults_among}
 use Rattle.table_board.specs.HonestRuns.{IsUndamaged, IsUndamagedReply}
 use Rattle.table_core.specs.declared.job_reply.JobReply.{JobReply}
@@ -17,9 +16,11 @@ use Rattle.table_jobs.specs.Replies.{IsTold, ending, first_of_two, told}
 use Rattle.table_query.specs.Answers.{IsAnswer, reply_with}
 use Rattle.table_query.specs.GroupReading.{Damage, TableReading}
 use Rattle.table_query.specs.ReadBytes.{bytes_read, pinned}
-use Rattle.upsert_writer.specs.Blocks.{BlockForm}
-use Rattle.script_run.specs.Lines.{AnswersLine}
-use Rattle.script_run.specs.Runs.{ComesTo, IsUndamagedAnswer}
+use Rattle.row_values.specs.declared.row_layout.RowLayout.{RowLayout}
+use Rattle.upsert_writer.specs.Answers.{AnswersBatch}
+use Rattle.upsert_writer.specs.Batches.{Refusal}
+use Rattle.script_run.specs.Lines.{AnswersLine, batch_of, blocks_of, reading_of}
+use Rattle.script_run.specs.Runs.{ComesTo, IsUndamagedAnswer, RunTable}
 
 -- ---- damage
 
@@ -39,14 +40,22 @@ as_told : (o : Option JobReply) (given : JobReply) → IsTold o given → IfSome
 as_told (Some answer) given is whole = subst IsUndamagedAnswer (sym is) whole
 as_told None given is whole = subst IsUndamagedAnswer (sym is) tt
 
-snapshot_undamaged : (form : BlockForm) (H after : History) (given : JobReply) → ComesTo form Snapshot H after given → IsUndamagedAnswer given
-snapshot_undamaged form H after (job.Damaged name cause at) is = absurd is
-snapshot_undamaged form H after given is = tt
+snapshot_undamaged : (table : RunTable) (at : Option ℕ) (H after : History) (given : JobReply) → ComesTo table (snapshot at) H after given → IsUndamagedAnswer given
+snapshot_undamaged table at H after (job.Damaged name cause place) is = absurd is
+snapshot_undamaged table at H after given is = tt
 
-pub line_undamaged : (form : BlockForm) (line : Line) (mine : List Entry) (H after : History) (given : JobReply) → AllByRecursion IsUndamaged mine → AnswersLine form line mine given → ComesTo form line H after given
+batch_undamaged : (layout : RowLayout) (batch : Result (List Write) Refusal) (mine : List Entry) (given : JobReply) → AllByRecursion IsUndamaged mine → AnswersBatch (blocks_of layout) batch mine given
     → IsUndamagedAnswer given
-line_undamaged form (Upsert rows) mine H after given all answers is = as_told (told mine) given answers.answers.told (told_undamaged mine all)
-line_undamaged form Snapshot mine H after given all answers is = snapshot_undamaged form H after given is
+batch_undamaged layout (Ok writes) mine given all answers = as_told (told mine) given answers.answers.told (told_undamaged mine all)
+batch_undamaged layout (Err refusal) mine given all (none, inl refused) = subst IsUndamagedAnswer (sym refused) tt
+batch_undamaged layout (Err refusal) mine given all (none, inr wanting) = subst IsUndamagedAnswer (sym wanting) tt
+
+pub line_undamaged : (table : RunTable) (said : Said) (mine : List Entry) (H after : History) (given : JobReply) → AllByRecursion IsUndamaged mine → AnswersLine table.layout said mine given
+    → ComesTo table said H after given → IsUndamagedAnswer given
+line_undamaged table (init props) mine H after given all answers is = absurd answers
+line_undamaged table (upsert rows) mine H after given all answers is = batch_undamaged table.layout (batch_of table.layout (upsert rows)) mine given all answers
+line_undamaged table (delete keys) mine H after given all answers is = batch_undamaged table.layout (batch_of table.layout (delete keys)) mine given all answers
+line_undamaged table (snapshot at) mine H after given all answers is = snapshot_undamaged table at H after given is
 
 -- ---- faults
 
@@ -75,7 +84,14 @@ as_answered_fault reading (Some answer) view bytes is = ap Some (sym is)
 as_answered_fault reading None None bytes is = cc
 as_answered_fault reading None (Some view) bytes is = absurd (not_made view.t _ is.1)
 
-pub line_fault : (form : BlockForm) (line : Line) (mine : List Entry) → AnswersLine form line mine job.Fault → 1 ≤ faults_among mine
-line_fault form (Upsert rows) mine answers = told_fault mine (as_told_fault (told mine) answers.answers.told)
-line_fault form Snapshot mine answers =
-    told_fault mine (as_answered_fault (record { rows = form.reading; table = form.table }) (told mine) (pinned mine) (bytes_read mine) answers.answer)
+batch_fault : (layout : RowLayout) (batch : Result (List Write) Refusal) (mine : List Entry) → AnswersBatch (blocks_of layout) batch mine job.Fault → 1 ≤ faults_among mine
+batch_fault layout (Ok writes) mine answers = told_fault mine (as_told_fault (told mine) answers.answers.told)
+batch_fault layout (Err refusal) mine (none, inl refused) = cc
+batch_fault layout (Err refusal) mine (none, inr wanting) = cc
+
+pub line_fault : (layout : RowLayout) (said : Said) (mine : List Entry) → AnswersLine layout said mine job.Fault → 1 ≤ faults_among mine
+line_fault layout (init props) mine answers = absurd answers
+line_fault layout (upsert rows) mine answers = batch_fault layout (batch_of layout (upsert rows)) mine answers
+line_fault layout (delete keys) mine answers = batch_fault layout (batch_of layout (delete keys)) mine answers
+line_fault layout (snapshot at) mine answers =
+    told_fault mine (as_answered_fault (reading_of layout) (told mine) (pinned mine) (bytes_read mine) answers.answer)

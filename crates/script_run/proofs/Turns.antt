@@ -11,11 +11,10 @@ use Rattle.table_history.specs.Histories.{History, is_job, own}
 use Rattle.table_history.specs.JobLaw.{entries_of}
 use Rattle.table_history.specs.declared.entry.Entry.{Entry}
 use Rattle.table_history.specs.declared.job.Job.{Job}
-use Rattle.upsert_writer.specs.Blocks.{BlockForm}
-use Rattle.job_script.specs.declared.script.ScriptJob.{ScriptJob}
+use Rattle.script_jobs.specs.Scripts.{SaidJob}
 use Rattle.script_run.specs.Lines.{AnswersLine}
 use Rattle.script_run.specs.Parts.{AreBelow}
-use Rattle.script_run.specs.Runs.{RanLine, job_of}
+use Rattle.script_run.specs.Runs.{RanLine, RunTable, job_of}
 
 other_line : (job e : Job) → e.line < job.line → is_job job e ≡ false
 other_line job e below = grind (arith, nat_tests)
@@ -42,10 +41,10 @@ own_mine job (e ∷ mine) before all first =
 pub made : (job : Job) (before after : History) (adds : AddsOwn job before after) → AreBelow job.line before → IsMadeBy job before after adds.mine
 made job before after adds below = record { are = adds.are; all = adds.own; first = none_own job before below }
 
-pub ran_line : (form : BlockForm) (job : ScriptJob) (of : Job) (before mid after : History) (reply : JobReply) → of ≡ job_of job.number → mid ≡ before → AreBelow job.number before
-    → AddsOwn of mid after → AnswersLine form job.line (entries_of (placed_own of after)) reply → RanLine form ⊥ job before after reply
-ran_line form job of before mid after reply is same below adds answers =
-    let own_job = job_of job.number in
+pub ran_line : (table : RunTable) (job : SaidJob) (of : Job) (before mid after : History) (reply : JobReply) → of ≡ job_of job → mid ≡ before → AreBelow job.line before
+    → AddsOwn of mid after → AnswersLine table.layout job.what (entries_of (placed_own of after)) reply → RanLine table ⊥ job before after reply
+ran_line table job of before mid after reply is same below adds answers =
+    let own_job = job_of job in
     let adds_own : AddsOwn own_job before after = subst (λ (H : History). AddsOwn own_job H after) same (subst (λ (j : Job). AddsOwn j mid after) is adds) in
     let first = none_own own_job before below in
     let mine_is : entries_of (placed_own of after) ≡ adds_own.mine =
@@ -53,7 +52,7 @@ ran_line form job of before mid after reply is same below adds answers =
     record {
       mine = adds_own.mine;
       made = made own_job before after adds_own below;
-      answers = subst (λ (es : List Entry). AnswersLine form job.line es reply) mine_is answers;
+      answers = subst (λ (es : List Entry). AnswersLine table.layout job.what es reply) mine_is answers;
       comes = λ none. absurd none;
     }
 
@@ -69,11 +68,11 @@ of_line job (e ∷ mine) all before below =
     let line : e.job.line ≡ job.line = ap (λ (j : Job). j.line) all.0 in
     (omega (arith, line), of_line job mine all.1 before below)
 
-pub below_next : (form : BlockForm) (Stood : Type 0) (job : ScriptJob) (before after : History) (reply : JobReply) → AreBelow job.number before → RanLine form Stood job before after reply
-    → AreBelow (job.number + 1) after
-below_next form Stood job before after reply below ran =
-    subst (AreBelow (job.number + 1)) (sym ran.made.are)
-    (of_line (job_of job.number) ran.mine ran.made.all before (below_more job.number (job.number + 1) before (omega arith) below))
+pub below_next : (table : RunTable) (Stood : Type 0) (job : SaidJob) (before after : History) (reply : JobReply) → AreBelow job.line before → RanLine table Stood job before after reply
+    → AreBelow (job.line + 1) after
+below_next table Stood job before after reply below ran =
+    subst (AreBelow (job.line + 1)) (sym ran.made.are)
+    (of_line (job_of job) ran.mine ran.made.all before (below_more job.line (job.line + 1) before (omega arith) below))
 
 pub below_raised : (number next : ℕ) (H : History) → number ≤ next → AreBelow number H → AreBelow next H
 below_raised = below_more

@@ -2,7 +2,7 @@
 use Rattle.std.specs.Prelude.{◌≡◌, ℕ, ◌<◌, ◌≤◌, List, [], ◌++◌, length, take, Option, IfSome, option_map}
 use Rattle.hudi_base.specs.Faults.{Rose}
 use Rattle.hudi_base.specs.Streams.{SinkState, SourceState}
-use Rattle.job_script.specs.Script.{most_script_bytes}
+use Rattle.script_jobs.specs.Scripts.{most_script_bytes}
 use Rattle.script_run.specs.declared.input.Input.{Input}
 use Rattle.script_run.specs.declared.input.Input.TheVariants as input
 

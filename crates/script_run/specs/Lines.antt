@@ -1,47 +1,66 @@
 -- What the jobs of lines write and answer.
-use Rattle.std.specs.Prelude.{◌≡◌, List, [], map, None, Result, Ok}
-use Rattle.hudi_base.specs.declared.value.Value.{Value}
-use Rattle.job_script.specs.Rows.{AreSized, IsSized, row_of_input, value_of_input}
-use Rattle.job_script.specs.declared.script.InputRow.{InputRow}
-use Rattle.job_script.specs.declared.script.Line.{Line}
-use Rattle.job_script.specs.declared.script.Line.TheVariants.{Upsert, Snapshot}
-use Rattle.payload_merge.specs.declared.row.Row.{Row}
+use Rattle.std.specs.Prelude.{ℕ, List, [], ◌∷◌, is_some, Result, Ok, Err}
+use Rattle.avro_schema.specs.SchemaTexts.{type_text}
+use Rattle.hudi_base.specs.declared.value.Value.{Value, Record}
 use Rattle.payload_merge.specs.declared.row.Write.{Write}
-use Rattle.payload_merge.specs.declared.row.Write.TheVariants.{Put}
+use Rattle.row_codec.specs.NewRows.{row_in}
+use Rattle.row_records.specs.Records.{record_type, rows_in}
+use Rattle.row_values.specs.JsonRows.{values_of_json}
+use Rattle.row_values.specs.declared.row_layout.RowLayout.{RowLayout}
+use Rattle.script_jobs.specs.Jobs.{Said, init, upsert, delete, snapshot}
+use Rattle.serde_json.specs.Data.{Data, Items, no_items, item}
 use Rattle.table_core.specs.declared.job_reply.JobReply.{JobReply}
-use Rattle.table_core.specs.declared.job_reply.RowCause.{RowCause}
 use Rattle.table_history.specs.declared.entry.Entry.{Entry}
 use Rattle.table_query.specs.Answers.{IsQueryReply}
-use Rattle.upsert_writer.specs.Answers.{IsWritten}
+use Rattle.table_query.specs.GroupReading.{TableReading}
+use Rattle.upsert_writer.specs.Answers.{AnswersBatch}
+use Rattle.upsert_writer.specs.Batches.{NewWrites, Refusal, batch_writes}
 use Rattle.upsert_writer.specs.Blocks.{BlockForm}
+use Rattle.upsert_writer.specs.declared.batch.Batch.TheVariants.{Puts, Dels}
 use Rattle.upsert_writer.specs.declared.batch.PutRow.{PutRow}
-use Rattle.upsert_writer.specs.declared.batch.PutRow.TheVariants.{Fits}
+use Rattle.upsert_writer.specs.declared.batch.PutRow.TheVariants.{Fits, Mismatch}
 
--- the put of a row
-abbrev pub put_of_input : InputRow → Write
-put_of_input row = Put (row_of_input row)
+-- ---- the table's forms
 
--- a row as a writer is given it
-abbrev pub given_row : InputRow → PutRow
-given_row row = Fits (value_of_input row)
+-- how its blocks are written
+abbrev pub blocks_of : RowLayout → BlockForm
+blocks_of layout = record { reading = rows_in layout; table = layout.table; schema = type_text (record_type layout) }
 
--- what a line writes
-abbrev pub batch_of : Line → List Write
-batch_of (Upsert rows) = map put_of_input rows
-batch_of Snapshot = []
+-- how its blocks are read
+abbrev pub reading_of : RowLayout → TableReading
+reading_of layout = record { rows = rows_in layout; table = layout.table }
 
--- its rows are as many and as long as they may be
-abbrev pub IsSizedLine : Line → Type 0
-IsSizedLine (Upsert rows) = AreSized rows
-IsSizedLine Snapshot = Unit {0}
+-- how its new rows are made
+abbrev pub new_writes : RowLayout → NewWrites
+new_writes layout = record { row = row_in layout; is_ordered = is_some layout.ordering }
 
--- The job of a line made these entries and has this answer: an upsert writes its rows as one batch, and a snapshot is at
--- the latest instant.
-abbrev pub AnswersLine : BlockForm → Line → List Entry → JobReply → Type 0
-AnswersLine form (Upsert rows) mine reply = IsWritten form (map put_of_input rows) mine reply
-AnswersLine form Snapshot mine reply = IsQueryReply (record { rows = form.reading; table = form.table }) None mine reply
+-- ---- batches
 
--- The rows of scripts are values of a codec's table, and each makes the row that it is.
-abbrev pub TakesScriptRows : (Value → Type 0) → (Value → Result Row RowCause) → Type 0
-TakesScriptRows FitsSchema made =
-    (row : InputRow) → IsSized row → FitsSchema (value_of_input row) × (made (value_of_input row) ≡ Ok (row_of_input row))
+-- a row of a line as a writer is given it: a record of the table's schema, or the first field that it doesn't fit
+abbrev pub record_or_field : Result (List Value) ℕ → PutRow
+record_or_field (Ok values) = Fits (Record values)
+record_or_field (Err field) = Mismatch field
+
+abbrev pub given_row : RowLayout → Data → PutRow
+given_row layout row = record_or_field (values_of_json layout.fields row)
+
+abbrev pub given_rows : RowLayout → Items → List PutRow
+given_rows layout no_items = []
+given_rows layout (item row rows) = given_row layout row ∷ given_rows layout rows
+
+-- what a line writes, or its first row or key that is refused
+abbrev pub batch_of : RowLayout → Said → Result (List Write) Refusal
+batch_of layout (upsert rows) = batch_writes (new_writes layout) (Puts (given_rows layout rows))
+batch_of layout (delete keys) = batch_writes (new_writes layout) (Dels keys)
+batch_of layout (init props) = Ok []
+batch_of layout (snapshot at) = Ok []
+
+-- ---- answers
+
+-- The job of a line made these entries and has this answer: an upsert or a delete writes its rows or its keys as one
+-- batch, and a snapshot is at its instant, or at the latest one. Making a table is no job here.
+abbrev pub AnswersLine : RowLayout → Said → List Entry → JobReply → Type 0
+AnswersLine layout (init props) mine reply = ⊥
+AnswersLine layout (upsert rows) mine reply = AnswersBatch (blocks_of layout) (batch_of layout (upsert rows)) mine reply
+AnswersLine layout (delete keys) mine reply = AnswersBatch (blocks_of layout) (batch_of layout (delete keys)) mine reply
+AnswersLine layout (snapshot at) mine reply = IsQueryReply (reading_of layout) at mine reply

@@ -1,5 +1,5 @@
 -- How the parts of a run stand. Only private clauses cite this.
-use Rattle.std.specs.Prelude.{◌≡◌, ◌≢◌, ◌⊎◌, ◌≤◌, ◌<◌, ◌+◌, ℕ, true, false, Bool, List, [], ◌∷◌, ◌++◌, IfSome, Result, Ok, Err, String}
+use Rattle.std.specs.Prelude.{◌≡◌, ◌≢◌, ◌⊎◌, ◌≤◌, ◌<◌, ◌+◌, ℕ, true, false, Bool, List, [], ◌∷◌, ◌++◌, flat_map, Some, None, IfSome, IsSomeAnd, Result, Ok, Err, String}
 use Rattle.std.specs.FinMap.{empty}
 use Rattle.std.specs.List.{AllByRecursion}
 use Rattle.std.specs.Str.Lines.{lines}
@@ -7,44 +7,69 @@ use Rattle.std.specs.declared.alloc.AllocError.{AllocError}
 use Rattle.std.specs.declared.alloc.Global.{Global}
 use Rattle.hudi_base.specs.Clock.{ClockState}
 use Rattle.hudi_base.specs.Faults.{Rose}
-use Rattle.hudi_base.specs.Store.{StoreState}
+use Rattle.hudi_base.specs.Store.{Fails, StoreState}
 use Rattle.hudi_base.specs.Streams.{SinkState, SourceState}
-use Rattle.job_script.specs.Rows.{HasSizes}
-use Rattle.job_script.specs.Script.{script_of}
-use Rattle.job_script.specs.Texts.{job_text, jobs_text}
-use Rattle.job_script.specs.declared.script.ScriptJob.{ScriptJob}
+use Rattle.row_values.specs.declared.row_layout.RowLayout.{RowLayout}
+use Rattle.row_codec.specs.Codec.{IsOfTable}
+use Rattle.script_jobs.specs.Jobs.{init}
+use Rattle.script_jobs.specs.Limits.{IsInPhase}
+use Rattle.script_jobs.specs.Scripts.{SaidJob, SaidScript, script_of}
+use Rattle.script_texts.specs.Texts.{job_text, jobs_text, made_text}
 use Rattle.table_core.specs.declared.job_reply.JobReply.{JobReply}
 use Rattle.table_history.specs.Histories.{History}
-use Rattle.upsert_writer.specs.Blocks.{BlockForm}
+use Rattle.table_open.specs.NewTables.{making}
+use Rattle.table_props.specs.PropsTexts.{IsTold, Told as Properties}
+use Rattle.table_open.specs.declared.making.OpenError.{OpenError}
+use Rattle.table_open.specs.declared.making.OpenError.TheVariants as open_error
 use Rattle.script_run.specs.Ends.{IsReadWhole, IsTooLong}
-use Rattle.script_run.specs.Outcome.{Ends, HasBegun, HasRun, IsRunSolo, IsWithoutFiles, any_failed, is_failure}
-use Rattle.script_run.specs.Runs.{RanJobs, RanLine}
+use Rattle.script_run.specs.Outcome.{Ends, HasBegun, HasRun, IsRunSolo, IsWithoutFiles, any_failed, is_failure, jobs_of, table_made}
+use Rattle.script_run.specs.Runs.{RanJobs, RanLine, RunTable}
 use Rattle.script_run.specs.declared.verdict.Verdict.{Verdict}
-use Rattle.script_run.specs.declared.verdict.Verdict.TheVariants.{BadWords, InputFailed, TooLong, BadLine, StoreFailed, TableExists, OutOfMemory, Ran, Failed}
+use Rattle.script_run.specs.declared.verdict.Verdict.TheVariants.{BadWords, InputFailed, TooLong, BadLine, StoreFailed, TableExists, NoTable, OutOfMemory, Ran, Failed}
 
 -- ---- the script
 
--- the words are right, the input was read to its end, and it is a script of these jobs
-pub record IsScript (words : List (String Global)) (old new : SourceState) (jobs : List ScriptJob) : Type 0 where
+-- the words are right, the input was read to its end, and this is its script
+pub record IsScript (words : List (String Global)) (old new : SourceState) (script : SaidScript) : Type 0 where
   pub right : IsRunSolo words
   pub bytes : List ℕ
   pub whole : IsReadWhole old.left new.left bytes
-  pub says : script_of 1 (lines bytes) ≡ Ok jobs
+  pub says : script_of 1 (lines bytes) ≡ Ok script
 
 -- why there is no script
 abbrev pub EndsEarly : Verdict → List (String Global) → SourceState → SourceState → Type 0
 EndsEarly BadWords words old new = (¬ (IsRunSolo words)) × (new ≡ old)
 EndsEarly InputFailed words old new = IsRunSolo words × Rose old.faults new.faults
 EndsEarly TooLong words old new = IsRunSolo words × IsTooLong old.left
-EndsEarly (BadLine number) words old new =
-    IsRunSolo words × ((bytes : List ℕ) × (IsReadWhole old.left new.left bytes × (script_of 1 (lines bytes) ≡ Err number)))
+EndsEarly (BadLine number cause) words old new =
+    IsRunSolo words
+    × ((bytes : List ℕ) × (IsReadWhole old.left new.left bytes × (script_of 1 (lines bytes) ≡ Err (number, cause))))
 EndsEarly (OutOfMemory text) words old new = text ≡ []
 EndsEarly _ words old new = ⊥
 
--- the lines of jobs rise from this number on, and each is within the limits
-abbrev pub AreFrom : ℕ → List ScriptJob → Type 0
+-- the lines of jobs rise from this number on, and each is within the limits of a script for one lane
+abbrev pub AreFrom : ℕ → List SaidJob → Type 0
 AreFrom number [] = Unit {0}
-AreFrom number (job ∷ jobs) = (number ≤ job.number) × HasSizes job × AreFrom (job.number + 1) jobs
+AreFrom number (job ∷ jobs) = (number ≤ job.line) × IsInPhase 1 job × AreFrom (job.line + 1) jobs
+
+-- What a script is that was read: the first job makes a table, if there is one, and the lines of the others rise.
+pub record IsRead (script : SaidScript) : Type 0 where
+  pub makes : IfSome script.init (λ job. (props : Properties) × ((job.what ≡ init props) × IsTold props))
+  pub from : AreFrom 1 (jobs_of script)
+
+-- a script whose line with this number makes this table
+abbrev pub script_with : ℕ → ℕ → Properties → List (List SaidJob) → SaidScript
+script_with line lane props phases = record {
+  init = Some (record { line = line; lane = lane; what = init props });
+  phases = phases;
+}
+
+-- what a run has before its table is made: how its rows are laid out, its jobs, and the line of the making
+pub record IsReady (line : ℕ) (props : Properties) (phases : List (List SaidJob)) (own : RowLayout) (all : List SaidJob)
+    (out : List ℕ) : Type 0 where
+  pub layout : IsOfTable own props
+  pub jobs : all ≡ flat_map (λ jobs. jobs) phases
+  pub text : out ≡ made_text line
 
 -- ---- the jobs
 
@@ -53,39 +78,42 @@ abbrev pub AreBelow : ℕ → History → Type 0
 AreBelow number H = AllByRecursion (λ e. e.job.line < number) H
 
 -- jobs that may come next: they rise from above the lines of the entries
-pub record AreNext (jobs : List ScriptJob) (H : History) : Type 0 where
+pub record AreNext (jobs : List SaidJob) (H : History) : Type 0 where
   pub number : ℕ
   pub below : AreBelow number H
   pub from : AreFrom number jobs
 
 -- the line of a job stands behind the text, unless memory was wanting for it
-abbrev pub Told : Result Bool AllocError → ScriptJob → JobReply → List ℕ → List ℕ → Type 0
-Told (Ok failed) job reply old new = (failed ≡ is_failure reply) × (new ≡ old ++ job_text job reply)
-Told (Err error) job reply old new = new ≡ old
+abbrev pub Told : RowLayout → Result Bool AllocError → SaidJob → JobReply → List ℕ → List ℕ → Type 0
+Told layout (Ok failed) job reply old new = (failed ≡ is_failure reply) × (new ≡ old ++ job_text layout job reply)
+Told layout (Err error) job reply old new = new ≡ old
 
 -- one more job ran
-pub record RanNext (form : BlockForm) (job : ScriptJob) (before after : History) (result : Result Bool AllocError)
+pub record RanNext (table : RunTable) (job : SaidJob) (before after : History) (result : Result Bool AllocError)
     (old new : List ℕ) : Type 0 where
   pub reply : JobReply
-  pub ran : RanLine form ⊥ job before after reply
-  pub told : Told result job reply old new
+  pub ran : RanLine table ⊥ job before after reply
+  pub told : Told table.layout result job reply old new
 
--- these jobs ran, and this is their text; of their snapshots it is said what their entries tell
-pub record RanSoFar (form : BlockForm) (jobs : List ScriptJob) (H : History) (text : List ℕ) (failed : Bool) : Type 0 where
+-- these jobs ran, and this is their text, behind the line of the making; of their snapshots it is said what their entries
+-- tell
+pub record RanSoFar (table : RunTable) (made : List ℕ) (jobs : List SaidJob) (H : History) (text : List ℕ)
+    (failed : Bool) : Type 0 where
   pub replies : List JobReply
-  pub ran : RanJobs form ⊥ jobs replies [] H
+  pub ran : RanJobs table ⊥ jobs replies [] H
   pub failure : any_failed replies ≡ failed
-  pub printed : text ≡ jobs_text jobs replies
+  pub printed : text ≡ made ++ jobs_text table.layout jobs replies
 
 -- the first of these jobs ran, and the text is the beginning of theirs
-pub record StoppedAt (form : BlockForm) (jobs : List ScriptJob) (H : History) (text : List ℕ) : Type 0 where
-  pub first : List ScriptJob
-  pub later : List ScriptJob
+pub record StoppedAt (table : RunTable) (made : List ℕ) (jobs : List SaidJob) (H : History) (text : List ℕ)
+    : Type 0 where
+  pub first : List SaidJob
+  pub later : List SaidJob
   pub are : jobs ≡ first ++ later
   pub replies : List JobReply
-  pub ran : RanJobs form ⊥ first replies [] H
+  pub ran : RanJobs table ⊥ first replies [] H
   pub rest : List ℕ
-  pub printed : jobs_text first replies ≡ text ++ rest
+  pub printed : made ++ jobs_text table.layout first replies ≡ text ++ rest
 
 -- ---- the end
 
@@ -96,19 +124,29 @@ EndsListed TableExists old new = IfSome old.told.files (λ files. files ≢ empt
 EndsListed (OutOfMemory text) old new = text ≡ []
 EndsListed _ old new = ⊥
 
+-- how a run ends whose table isn't made
+abbrev pub verdict_of : OpenError → Verdict
+verdict_of open_error.Memory = OutOfMemory []
+verdict_of open_error.TableExists = TableExists
+verdict_of open_error.StoreFault = StoreFailed
+
 -- how a script ends that was read
-abbrev pub CameTo : BlockForm → Verdict → List ScriptJob → Type 0 → StoreState → StoreState → ClockState → ClockState → Type 0
-CameTo form StoreFailed jobs honest old new before after =
-    Rose old.faults new.faults × (new.told ≡ old.told) × (after ≡ before)
-CameTo form TableExists jobs honest old new before after =
+abbrev pub CameTo : Verdict → SaidScript → Type 0 → StoreState → StoreState → ClockState → ClockState → Type 0
+CameTo StoreFailed script honest old new before after =
+    Rose old.faults new.faults
+    × ((new.told ≡ old.told) ⊎ IsSomeAnd (table_made script) (λ props. Fails honest (making props) old.told new.told))
+    × (after ≡ before)
+CameTo TableExists script honest old new before after =
     IfSome old.told.files (λ files. files ≢ empty) × (new.told ≡ old.told) × (after ≡ before)
-CameTo form (Ran text) jobs honest old new before after =
-    IsWithoutFiles old.told × HasRun form honest jobs false text old new after
-CameTo form (Failed text) jobs honest old new before after =
-    IsWithoutFiles old.told × HasRun form honest jobs true text old new after
-CameTo form (OutOfMemory text) jobs honest old new before after =
-    ((new.told ≡ old.told) × (text ≡ [])) ⊎ (IsWithoutFiles old.told × HasBegun form honest jobs text old new after)
-CameTo form _ jobs honest old new before after = ⊥
+CameTo NoTable script honest old new before after =
+    IsWithoutFiles old.told × (table_made script ≡ None) × (new.told ≡ old.told) × (after ≡ before)
+CameTo (Ran text) script honest old new before after =
+    IsWithoutFiles old.told × HasRun honest script false text old new after
+CameTo (Failed text) script honest old new before after =
+    IsWithoutFiles old.told × HasRun honest script true text old new after
+CameTo (OutOfMemory text) script honest old new before after =
+    ((new.told ≡ old.told) × (text ≡ [])) ⊎ (IsWithoutFiles old.told × HasBegun honest script text old new after)
+CameTo _ script honest old new before after = ⊥
 
 -- How a run ends whose jobs came to this, with these lines of theirs and these of the entries: the text has both, and
 -- where memory was wanting, the first of them.
@@ -123,8 +161,9 @@ Prints _ lines journal _ = ⊥
 abbrev pub TakesMemory : Verdict → Type 0
 TakesMemory BadWords = Unit {0}
 TakesMemory TooLong = Unit {0}
-TakesMemory (BadLine number) = Unit {0}
+TakesMemory (BadLine number cause) = Unit {0}
 TakesMemory TableExists = Unit {0}
+TakesMemory NoTable = Unit {0}
 TakesMemory _ = ⊥
 
 -- an end told: this one, or want of memory for its text

@@ -1,12 +1,12 @@
 // The text of a run.
 ghost use Rattle.std.specs.Prelude.{◌≡◌, ◌++◌, List, ℕ, OnOk, OnErr, MatchResult};
-ghost use Rattle.job_script.specs.Marks.{marks_text};
+ghost use Rattle.script_texts.specs.Marks.{marks_text};
 ghost use Rattle.script_run.specs.Outcome.{is_failure};
 ghost use Rattle.script_run.specs.Parts.{Prints};
 
 use crate::verdict::Verdict;
 use hudi_base::Bytes;
-use job_script::put_mark_text;
+use script_texts::put_mark_text;
 use std::alloc::{AllocError, Global};
 use table_core::JobReply;
 use table_history::Mark;

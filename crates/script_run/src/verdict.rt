@@ -1,11 +1,12 @@
 // How a call ends: its status and its text.
 ghost use Rattle.std.specs.Prelude.{◌≡◌, ◌++◌, IfOk, OnErr, codes, decimal};
-ghost use Rattle.job_script.specs.Marks.{line_end};
-ghost use Rattle.script_run.specs.Outcome.{status_of, text_of};
+ghost use Rattle.script_texts.specs.Marks.{line_end};
+ghost use Rattle.script_run.specs.Outcome.{line_cause_text, status_of, text_of};
 ghost use Rattle.script_run.specs.Parts.{TakesMemory, Tells};
 
 use crate::output::write_all;
 use hudi_base::{Bytes, Sink};
+use script_jobs::LineCause;
 use std::alloc::{AllocError, Global};
 use std::fmt::Write;
 
@@ -23,12 +24,14 @@ pub enum Verdict {
     InputFailed,
     /// More came in than a script may have.
     TooLong,
-    /// The line of this number is the first outside the language.
-    BadLine(u32),
+    /// The line of this number is the first outside the language, for this cause.
+    BadLine(u32, LineCause),
     /// The store failed before a job ran.
     StoreFailed,
     /// The store has files already.
     TableExists,
+    /// The store has no file, and the script makes no table.
+    NoTable,
     /// Memory was wanting outside a job: so much of the text was made.
     OutOfMemory(Bytes),
     /// All jobs ran, and none failed. This is to be printed.
@@ -46,11 +49,11 @@ impl Verdict {
             Verdict::Ran(_) => 0,
             Verdict::Failed(_) => 1,
             Verdict::BadWords => 2,
-            Verdict::TooLong | Verdict::BadLine(_) => 3,
+            Verdict::TooLong | Verdict::BadLine(_, _) => 3,
             Verdict::StoreFailed => 4,
             Verdict::InputFailed => 5,
             Verdict::OutOfMemory(_) => OUT_OF_MEMORY,
-            Verdict::TableExists => 9,
+            Verdict::TableExists | Verdict::NoTable => 9,
         }
     }
 
@@ -66,19 +69,29 @@ impl Verdict {
             Verdict::OutOfMemory(text) => Ok(text),
             Verdict::BadWords => Bytes::from_slice(alloc, b"usage: hudi DIR run LANES\n"),
             Verdict::TooLong => Bytes::from_slice(alloc, b"bad line 0 too_long\n"),
-            Verdict::BadLine(number) => bad_line_text(alloc, number),
+            Verdict::BadLine(number, cause) => bad_line_text(alloc, number, &cause),
             Verdict::TableExists => Bytes::from_slice(alloc, b"table exists\n"),
+            Verdict::NoTable => Bytes::from_slice(alloc, b"no table\n"),
             Verdict::StoreFailed | Verdict::InputFailed => Ok(Bytes::from_vec(Vec::new(alloc))),
         }
     }
 }
 
 // The text that names a bad line.
-fn bad_line_text(alloc: Global, number: u32) -> Result<Bytes, AllocError>
-    ensures { IfOk result (λ text. text ≡ codes "bad line " ++ decimal number ++ codes " form" ++ line_end) }
+fn bad_line_text(alloc: Global, number: u32, cause: &LineCause) -> Result<Bytes, AllocError>
+    ensures { IfOk result (λ text.
+        text ≡ codes "bad line " ++ decimal number ++ codes " " ++ line_cause_text cause.now ++ line_end) }
 {
     let mut out = String::new(alloc);
-    writeln!(out, "bad line {number} form")?;
+    match cause {
+        LineCause::Json => writeln!(out, "bad line {number} json")?,
+        LineCause::Object => writeln!(out, "bad line {number} object")?,
+        LineCause::Field(name) => {
+            let name = name.as_str();
+            writeln!(out, "bad line {number} field {name}")?
+        }
+        LineCause::InitPlace => writeln!(out, "bad line {number} init_place")?,
+    }
     Ok(Bytes::from_vec(out.into_bytes()))
 }
 

@@ -8,3 +8,5 @@ mod jobs;
 mod lines;
 #[cfg(test)]
 mod scripts;
+#[cfg(test)]
+mod texts;

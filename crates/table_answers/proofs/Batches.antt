@@ -54,6 +54,7 @@ use Rattle.table_answers.proofs.GroupFolds.{one_live}
 use Rattle.table_answers.proofs.LiveSlices.{ArePlain, appending, instants_plain}
 use Rattle.table_answers.proofs.WriteBlocks.{block_of_writes}
 use Rattle.table_answers.proofs.Writes.{fresh_opened, one_block_more, same_writes}
+use Rattle.table_props.specs.PropsTexts.{Told as Properties}
 
 -- ---- lists
 
@@ -77,9 +78,9 @@ take_one_more xs n x is = ap (λ m. take m xs) (next n) ∙ by xs n is
 
 -- ---- how far a writer is
 
-module _ (form : BlockForm) (buckets : ℕ) (batch : List Write) where
+module _ (form : BlockForm) (props : Properties) (batch : List Write) where
   abbrev A : Table
-  A = fresh form.table buckets
+  A = fresh props
 
   abbrev batch_to : ℕ → List Target → List Write
   batch_to t targets = flat_map (λ s. batch_in t s.group batch) targets
@@ -88,13 +89,13 @@ module _ (form : BlockForm) (buckets : ℕ) (batch : List Write) where
     pub given : targets_given es ≡ targets
     pub slots : List PartitionSlots
     pub asked : AreSlotsOf batch slots
-    pub are : AreTargets (fresh form.table buckets) slots targets
-    pub wrote : writes_of form (fresh form.table buckets) H t ≡ batch_to t (take blocks targets)
+    pub are : AreTargets (fresh props) slots targets
+    pub wrote : writes_of form (fresh props) H t ≡ batch_to t (take blocks targets)
 
   -- completed, with these writes
   pub record IsWritten (H : History) (t : ℕ) : Type 0 where
-    pub wrote : WritesGroups batch t (fresh form.table buckets) (writes_of form (fresh form.table buckets) H t)
-    pub completed : is_completed (fresh form.table buckets) H t ≡ true
+    pub wrote : WritesGroups batch t (fresh props) (writes_of form (fresh props) H t)
+    pub completed : is_completed (fresh props) H t ≡ true
 
   abbrev Wrote : History → List Entry → Phase → Type 0
   Wrote H es (Drawn t) = writes_of form A H t ≡ []
@@ -106,7 +107,7 @@ module _ (form : BlockForm) (buckets : ℕ) (batch : List Write) where
 
   module _ (H : History) (es : List Entry) (j : Job) (plain : (t : ℕ) → ArePlain A (instant_of A H t)) where
     abbrev same_as : (s : Step) (r : Reply) → IsNoAppend s → May A H j s → Answers A H s r → (t : ℕ) → writes_of form A (entry j s r ∷ H) t ≡ writes_of form A H t
-    same_as s r other may answers t = same_writes form A H (fresh_opened form.table buckets) j t (completions A H) plain s r other may answers
+    same_as s r other may answers t = same_writes form A H (fresh_opened props) j t (completions A H) plain s r other may answers
 
     drawn_none : (t : ℕ) → writes_of form A (entry j Begin (reply.Began t) ∷ H) t ≡ []
     drawn_none t = ap (λ b. instant_writes form (cond b (Some (begun j (completions A H))) (instant_of A H t))) (same_number t t refl)
@@ -203,41 +204,41 @@ module _ (form : BlockForm) (buckets : ℕ) (batch : List Write) where
 
 -- ---- a writer's entries
 
-pub writer_wrote : (work : Work) (form : BlockForm) (buckets : ℕ) (batch : List Write) (before : History) (job : Job) (es : List Entry) → own job before ≡ [] → AllBy job es → WritesBatch form batch es
-    → IsLegal work (fresh form.table buckets) (es ++ before) → Wrote form buckets batch (es ++ before) es (phase es)
-writer_wrote work form buckets batch before job [] first all wrote legal = tt
-writer_wrote work form buckets batch before job (e ∷ es) first all wrote legal =
+pub writer_wrote : (work : Work) (form : BlockForm) (props : Properties) (batch : List Write) (before : History) (job : Job) (es : List Entry) → own job before ≡ [] → AllBy job es → WritesBatch form batch es
+    → IsLegal work (fresh props) (es ++ before) → Wrote form props batch (es ++ before) es (phase es)
+writer_wrote work form props batch before job [] first all wrote legal = tt
+writer_wrote work form props batch before job (e ∷ es) first all wrote legal =
     let mine : own e.job (es ++ before) ≡ es = ap (λ j. own j (es ++ before)) all.0 ∙ own_made job before es all.1 first in
-    wrote_then form buckets batch (es ++ before) es e.job (instants_plain work form.table buckets (es ++ before) legal.0) work e.step e.reply (phase es) wrote.0 legal.1.may legal.1.answers
+    wrote_then form props batch (es ++ before) es e.job (instants_plain work props (es ++ before) legal.0) work e.step e.reply (phase es) wrote.0 legal.1.may legal.1.answers
     (subst (λ xs. Allows work e.job (phase xs) e.step) mine legal.2)
-    (subst (λ xs. Stands (fresh form.table buckets) (es ++ before) e.job (phase xs)) mine (linked work (fresh form.table buckets) (es ++ before) (fresh_opened form.table buckets) legal.0 e.job))
-    (writer_wrote work form buckets batch before job es first all.1 wrote.1 legal.0)
+    (subst (λ xs. Stands (fresh props) (es ++ before) e.job (phase xs)) mine (linked work (fresh props) (es ++ before) (fresh_opened props) legal.0 e.job))
+    (writer_wrote work form props batch before job es first all.1 wrote.1 legal.0)
 
-committed_end : (form : BlockForm) (buckets : ℕ) (batch : List Write) (H : History) (es : List Entry) (t : ℕ) (p : Phase) → EndsAs p (job_reply.Committed t) → Wrote form buckets batch H es p → IsWritten form buckets batch H t
-committed_end form buckets batch H es t (Committed u) ends was = subst (IsWritten form buckets batch H) (same u ends) was
+committed_end : (form : BlockForm) (props : Properties) (batch : List Write) (H : History) (es : List Entry) (t : ℕ) (p : Phase) → EndsAs p (job_reply.Committed t) → Wrote form props batch H es p → IsWritten form props batch H t
+committed_end form props batch H es t (Committed u) ends was = subst (IsWritten form props batch H) (same u ends) was
   where
     same : (u : ℕ) → job_reply.Committed t ≡ job_reply.Committed u → u ≡ t
     same u e = cc
-committed_end form buckets batch H es t Fresh ends was = absurd (other ends)
+committed_end form props batch H es t Fresh ends was = absurd (other ends)
   where
     other : job_reply.Committed t ≡ job_reply.Memory → ⊥
     other e = cc
-committed_end form buckets batch H es t p ends was = absurd ends
+committed_end form props batch H es t p ends was = absurd ends
 
-pub batch_written : (work : Work) (form : BlockForm) (buckets : ℕ) (batch : List Write) (before after : History) (job : Job) (mine : List Entry) (t : ℕ) → IsMadeBy job before after mine → IsLegal work (fresh form.table buckets) after
-    → WritesBatch form batch mine → IsWriterReply mine (job_reply.Committed t) → IsWritten form buckets batch after t
-batch_written work form buckets batch before after job mine t made legal wrote reply_is =
-    subst (λ H. IsWritten form buckets batch H t) (sym made.are)
-    (committed_end form buckets batch (mine ++ before) mine t (phase mine) reply_is.ended
-    (writer_wrote work form buckets batch before job mine made.first made.all wrote (subst (IsLegal work (fresh form.table buckets)) made.are legal)))
+pub batch_written : (work : Work) (form : BlockForm) (props : Properties) (batch : List Write) (before after : History) (job : Job) (mine : List Entry) (t : ℕ) → IsMadeBy job before after mine → IsLegal work (fresh props) after
+    → WritesBatch form batch mine → IsWriterReply mine (job_reply.Committed t) → IsWritten form props batch after t
+batch_written work form props batch before after job mine t made legal wrote reply_is =
+    subst (λ H. IsWritten form props batch H t) (sym made.are)
+    (committed_end form props batch (mine ++ before) mine t (phase mine) reply_is.ended
+    (writer_wrote work form props batch before job mine made.first made.all wrote (subst (IsLegal work (fresh props)) made.are legal)))
 
 -- of rows or keys that are committed none was refused
-pub given_written : (work : Work) (form : BlockForm) (buckets : ℕ) (found : Result (List Write) Refusal) (before after : History) (job : Job) (mine : List Entry) (t : ℕ) → IsMadeBy job before after mine
-    → IsLegal work (fresh form.table buckets) after → AnswersBatch form found mine (job_reply.Committed t)
-    → IsOkAnd found (λ writes. WritesGroups writes t (fresh form.table buckets) (writes_of form (fresh form.table buckets) after t))
-given_written work form buckets (Ok writes) before after job mine t made legal answers =
-    (batch_written work form buckets writes before after job mine t made legal answers.wrote answers.answers).wrote
-given_written work form buckets (Err refusal) before after job mine t made legal answers = absurd (refused answers.1)
+pub given_written : (work : Work) (form : BlockForm) (props : Properties) (found : Result (List Write) Refusal) (before after : History) (job : Job) (mine : List Entry) (t : ℕ) → IsMadeBy job before after mine
+    → IsLegal work (fresh props) after → AnswersBatch form found mine (job_reply.Committed t)
+    → IsOkAnd found (λ writes. WritesGroups writes t (fresh props) (writes_of form (fresh props) after t))
+given_written work form props (Ok writes) before after job mine t made legal answers =
+    (batch_written work form props writes before after job mine t made legal answers.wrote answers.answers).wrote
+given_written work form props (Err refusal) before after job mine t made legal answers = absurd (refused answers.1)
   where
     refused : (job_reply.Committed t ≡ job_reply.BadRow refusal.place refusal.cause) ⊎ (job_reply.Committed t ≡ job_reply.Memory) → ⊥
     refused (inl e) = cc
@@ -296,7 +297,7 @@ writes_each (w ∷ batch) g = ap (λ b. is_at g (write_slot w) || b) (writes_eac
 asked_writes : (batch : List Write) (slots : List PartitionSlots) (g : GroupRef) → AreSlotsOf batch slots → is_asked slots g ≡ list_any (is_in_group g) batch
 asked_writes batch slots g asked = sym (asked_each slots g) ∙ ap (list_any (is_at g)) asked ∙ writes_each batch g
 
-some_write : (A : Table) (g h : GroupRef) (batch : List Write) → IsBuckets A.buckets → is_live A g ≡ true → is_live A h ≡ true → AllByRecursion (λ w. is_in_group g w ≡ true) batch
+some_write : (A : Table) (g h : GroupRef) (batch : List Write) → IsBuckets A.props.buckets → is_live A g ≡ true → is_live A h ≡ true → AllByRecursion (λ w. is_in_group g w ≡ true) batch
     → list_any (is_in_group h) batch ≡ true → h ≡ g
 some_write A g h [] fit live_g live_h all any = cc
 some_write A g h (w ∷ batch) fit live_g live_h all any = by (is_in_group h w) refl any (some_write A g h batch fit live_g live_h all.1)
@@ -324,7 +325,7 @@ none_in : (t : ℕ) (gs : List GroupRef) → flat_map (λ group. batch_in t grou
 none_in t [] = refl
 none_in t (g ∷ gs) = none_in t gs
 
-all_in_one : (A : Table) (batch : List Write) (t : ℕ) (g : GroupRef) (writes : List Write) → IsBuckets A.buckets → is_live A g ≡ true → AllByRecursion (λ w. is_in_group g w ≡ true) batch
+all_in_one : (A : Table) (batch : List Write) (t : ℕ) (g : GroupRef) (writes : List Write) → IsBuckets A.props.buckets → is_live A g ≡ true → AllByRecursion (λ w. is_in_group g w ≡ true) batch
     → WritesGroups batch t A writes → writes ≡ writes_from t 0 batch
 all_in_one A [] t g writes fit live all wrote = wrote.are ∙ none_in t wrote.groups
 all_in_one A (w ∷ batch) t g writes fit live all wrote =
@@ -348,9 +349,9 @@ all_in_one A (w ∷ batch) t g writes fit live all wrote =
         wrote.live.are h ∙ ap (λ x. is_live A x && is_asked wrote.slots x) is ∙ ap (λ b. b && is_asked wrote.slots g) live
         ∙ asked_writes (w ∷ batch) wrote.slots g wrote.asked ∙ ap (λ b. b || list_any (is_in_group g) batch) all.0
 
-pub whole_batch : (work : Work) (form : BlockForm) (buckets : ℕ) (batch : List Write) (before after : History) (job : Job) (mine : List Entry) (t : ℕ) (group : GroupRef) → IsBuckets buckets
-    → IsMadeBy job before after mine → IsLegal work (fresh form.table buckets) after → WritesBatch form batch mine → IsWriterReply mine (job_reply.Committed t)
-    → is_live (fresh form.table buckets) group ≡ true → AllByRecursion (λ w. is_in_group group w ≡ true) batch
-    → writes_of form (fresh form.table buckets) after t ≡ writes_from t 0 batch
-whole_batch work form buckets batch before after job mine t group fit made legal wrote reply_is live all =
-    all_in_one (fresh form.table buckets) batch t group _ fit live all (batch_written work form buckets batch before after job mine t made legal wrote reply_is).wrote
+pub whole_batch : (work : Work) (form : BlockForm) (props : Properties) (batch : List Write) (before after : History) (job : Job) (mine : List Entry) (t : ℕ) (group : GroupRef) → IsBuckets props.buckets
+    → IsMadeBy job before after mine → IsLegal work (fresh props) after → WritesBatch form batch mine → IsWriterReply mine (job_reply.Committed t)
+    → is_live (fresh props) group ≡ true → AllByRecursion (λ w. is_in_group group w ≡ true) batch
+    → writes_of form (fresh props) after t ≡ writes_from t 0 batch
+whole_batch work form props batch before after job mine t group fit made legal wrote reply_is live all =
+    all_in_one (fresh props) batch t group _ fit live all (batch_written work form props batch before after job mine t made legal wrote reply_is).wrote

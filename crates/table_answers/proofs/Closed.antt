@@ -23,6 +23,7 @@ use Rattle.table_images.proofs.SameLogs.{entry}
 use Rattle.upsert_writer.specs.Blocks.{BlockForm}
 use Rattle.table_answers.specs.InstantWrites.{instant_writes, writes_of}
 use Rattle.table_answers.proofs.Writes.{fresh_opened}
+use Rattle.table_props.specs.PropsTexts.{Told as Properties}
 
 -- it is there, and nobody's
 pub record IsClosed (A : Table) (H : History) (t : ℕ) : Type 0 where
@@ -40,9 +41,9 @@ none_some i e = cc
 owned_some : (j : Job) → None ≡ Some j → ⊥
 owned_some j e = cc
 
-module _ (name : List ℕ) (buckets : ℕ) (H : History) (t : ℕ) (was : IsClosed (fresh name buckets) H t) where
+module _ (props : Properties) (H : History) (t : ℕ) (was : IsClosed (fresh props) H t) where
   abbrev A : Table
-  A = fresh name buckets
+  A = fresh props
 
   -- nobody may go on with it
   not_owned : (j : Job) (u : ℕ) (P : Instant → Type 0) → Owns A H j u P → (u == t) ≡ false
@@ -52,7 +53,7 @@ module _ (name : List ℕ) (buckets : ℕ) (H : History) (t : ℕ) (was : IsClos
 
   not_concerned : (j : Job) (s : Step) (r : Reply) → May A H j s → Answers A H s r → concerns s r t ≡ false
   not_concerned j Begin (reply.Began u) may answers =
-      never (u == t) (λ here. none_some was.i (sym (undrawn A H (fresh_opened name buckets) u answers) ∙ ap (instant_of A H) (number u t here) ∙ was.is))
+      never (u == t) (λ here. none_some was.i (sym (undrawn A H (fresh_opened props) u answers) ∙ ap (instant_of A H) (number u t here) ∙ was.is))
   not_concerned j (Enter u slots) r may answers = not_owned j u _ may.0
   not_concerned j (Append u target writes bytes) r may answers = not_owned j u _ may
   not_concerned j (Finish u checkpoint) r may answers = not_owned j u _ may
@@ -70,9 +71,9 @@ module _ (name : List ℕ) (buckets : ℕ) (H : History) (t : ℕ) (was : IsClos
 abbrev AllClosed : Table → History → List ℕ → Type 0
 AllClosed A H us = AllByRecursion (IsClosed A H) us
 
-all_still : (name : List ℕ) (buckets : ℕ) (H : History) (e : Entry) (us : List ℕ) → May (fresh name buckets) H e.job e.step → Answers (fresh name buckets) H e.step e.reply → AllClosed (fresh name buckets) H us → AllClosed (fresh name buckets) (e ∷ H) us
-all_still name buckets H e [] may answers all = tt
-all_still name buckets H e (u ∷ us) may answers all = (closed_still name buckets H u all.0 e may answers, all_still name buckets H e us may answers all.1)
+all_still : (props : Properties) (H : History) (e : Entry) (us : List ℕ) → May (fresh props) H e.job e.step → Answers (fresh props) H e.step e.reply → AllClosed (fresh props) H us → AllClosed (fresh props) (e ∷ H) us
+all_still props H e [] may answers all = tt
+all_still props H e (u ∷ us) may answers all = (closed_still props H u all.0 e may answers, all_still props H e us may answers all.1)
 
 all_with : (P : ℕ → Type 0) (v : ℕ) (us : List ℕ) → P v → AllByRecursion P us → AllByRecursion P (insert_time v us)
 all_with P v [] one all = (one, tt)
@@ -93,24 +94,24 @@ closed_now A H j u v checkpoint P same owns = by (instant_of A H v) refl (subst 
       closed = refl;
     }
 
-closed_then : (name : List ℕ) (buckets : ℕ) (H : History) (j : Job) (s : Step) (r : Reply) → May (fresh name buckets) H j s → Answers (fresh name buckets) H s r → AllClosed (fresh name buckets) H (completed_instants (fresh name buckets) H)
-    → AllClosed (fresh name buckets) (entry j s r ∷ H) (completed_instants (fresh name buckets) (entry j s r ∷ H))
-closed_then name buckets H j (Finish u checkpoint) (reply.Completed v) may answers all =
-    all_with (IsClosed (fresh name buckets) (entry j (Finish u checkpoint) (reply.Completed v) ∷ H)) v (completed_instants (fresh name buckets) H) (closed_now (fresh name buckets) H j u v checkpoint _ answers may)
-    (all_still name buckets H (entry j (Finish u checkpoint) (reply.Completed v)) (completed_instants (fresh name buckets) H) may answers all)
-closed_then name buckets H j Begin (reply.Completed v) may answers all = absurd answers
-closed_then name buckets H j (Enter u slots) (reply.Completed v) may answers all = absurd answers
-closed_then name buckets H j (Append u target writes bytes) (reply.Completed v) may answers all = absurd answers
-closed_then name buckets H j (Pin None bases_only) (reply.Completed v) may answers all = absurd answers
-closed_then name buckets H j (Pin (Some t) bases_only) (reply.Completed v) may answers all = absurd answers
-closed_then name buckets H j (Unpin pin) (reply.Completed v) may answers all = absurd answers
-closed_then name buckets H j (Read (reader.Pin q) file offset len) (reply.Completed v) may answers all = absurd answers
-closed_then name buckets H j (Abandon u) (reply.Completed v) may answers all = absurd answers
-closed_then name buckets H j s r may answers all = all_still name buckets H (entry j s r) (completed_instants (fresh name buckets) H) may answers all
+closed_then : (props : Properties) (H : History) (j : Job) (s : Step) (r : Reply) → May (fresh props) H j s → Answers (fresh props) H s r → AllClosed (fresh props) H (completed_instants (fresh props) H)
+    → AllClosed (fresh props) (entry j s r ∷ H) (completed_instants (fresh props) (entry j s r ∷ H))
+closed_then props H j (Finish u checkpoint) (reply.Completed v) may answers all =
+    all_with (IsClosed (fresh props) (entry j (Finish u checkpoint) (reply.Completed v) ∷ H)) v (completed_instants (fresh props) H) (closed_now (fresh props) H j u v checkpoint _ answers may)
+    (all_still props H (entry j (Finish u checkpoint) (reply.Completed v)) (completed_instants (fresh props) H) may answers all)
+closed_then props H j Begin (reply.Completed v) may answers all = absurd answers
+closed_then props H j (Enter u slots) (reply.Completed v) may answers all = absurd answers
+closed_then props H j (Append u target writes bytes) (reply.Completed v) may answers all = absurd answers
+closed_then props H j (Pin None bases_only) (reply.Completed v) may answers all = absurd answers
+closed_then props H j (Pin (Some t) bases_only) (reply.Completed v) may answers all = absurd answers
+closed_then props H j (Unpin pin) (reply.Completed v) may answers all = absurd answers
+closed_then props H j (Read (reader.Pin q) file offset len) (reply.Completed v) may answers all = absurd answers
+closed_then props H j (Abandon u) (reply.Completed v) may answers all = absurd answers
+closed_then props H j s r may answers all = all_still props H (entry j s r) (completed_instants (fresh props) H) may answers all
 
-all_closed : (work : Work) (name : List ℕ) (buckets : ℕ) (H : History) → IsLegal work (fresh name buckets) H → AllClosed (fresh name buckets) H (completed_instants (fresh name buckets) H)
-all_closed work name buckets [] legal = tt
-all_closed work name buckets (e ∷ H) legal = closed_then name buckets H e.job e.step e.reply legal.1.may legal.1.answers (all_closed work name buckets H legal.0)
+all_closed : (work : Work) (props : Properties) (H : History) → IsLegal work (fresh props) H → AllClosed (fresh props) H (completed_instants (fresh props) H)
+all_closed work props [] legal = tt
+all_closed work props (e ∷ H) legal = closed_then props H e.job e.step e.reply legal.1.may legal.1.answers (all_closed work props H legal.0)
 
 among : (P : ℕ → Type 0) (t : ℕ) (us : List ℕ) → list_any (λ u. u == t) us ≡ true → AllByRecursion P us → P t
 among P t [] is all = let wrong : false ≡ true = is in absurd (not_true wrong)
@@ -146,14 +147,14 @@ completed_still : (A : Table) (H : History) (j : Job) (s : Step) (r : Reply) (t 
 completed_still A H j s (reply.Completed v) t is = still_among v t (completed_instants A H) is
 completed_still A H j s r t is = is
 
-pub completed_stay : (work : Work) (name : List ℕ) (buckets : ℕ) (H : History) (t : ℕ) (more : List Entry) → IsLegal work (fresh name buckets) (more ++ H) → is_completed (fresh name buckets) H t ≡ true → is_completed (fresh name buckets) (more ++ H) t ≡ true
-completed_stay work name buckets H t [] legal is = is
-completed_stay work name buckets H t (e ∷ more) legal is = completed_still (fresh name buckets) (more ++ H) e.job e.step e.reply t (completed_stay work name buckets H t more legal.0 is)
+pub completed_stay : (work : Work) (props : Properties) (H : History) (t : ℕ) (more : List Entry) → IsLegal work (fresh props) (more ++ H) → is_completed (fresh props) H t ≡ true → is_completed (fresh props) (more ++ H) t ≡ true
+completed_stay work props H t [] legal is = is
+completed_stay work props H t (e ∷ more) legal is = completed_still (fresh props) (more ++ H) e.job e.step e.reply t (completed_stay work props H t more legal.0 is)
 
-pub writes_stay : (work : Work) (form : BlockForm) (buckets : ℕ) (H : History) (t : ℕ) (more : List Entry) → IsLegal work (fresh form.table buckets) (more ++ H) → is_completed (fresh form.table buckets) H t ≡ true
-    → writes_of form (fresh form.table buckets) (more ++ H) t ≡ writes_of form (fresh form.table buckets) H t
-writes_stay work form buckets H t [] legal is = refl
-writes_stay work form buckets H t (e ∷ more) legal is =
-    let closed : IsClosed (fresh form.table buckets) (more ++ H) t =
-    among (IsClosed (fresh form.table buckets) (more ++ H)) t (completed_instants (fresh form.table buckets) (more ++ H)) (completed_stay work form.table buckets H t more legal.0 is) (all_closed work form.table buckets (more ++ H) legal.0) in
-    ap (instant_writes form) (same_instant form.table buckets (more ++ H) t closed e legal.1.may legal.1.answers) ∙ writes_stay work form buckets H t more legal.0 is
+pub writes_stay : (work : Work) (form : BlockForm) (props : Properties) (H : History) (t : ℕ) (more : List Entry) → IsLegal work (fresh props) (more ++ H) → is_completed (fresh props) H t ≡ true
+    → writes_of form (fresh props) (more ++ H) t ≡ writes_of form (fresh props) H t
+writes_stay work form props H t [] legal is = refl
+writes_stay work form props H t (e ∷ more) legal is =
+    let closed : IsClosed (fresh props) (more ++ H) t =
+    among (IsClosed (fresh props) (more ++ H)) t (completed_instants (fresh props) (more ++ H)) (completed_stay work props H t more legal.0 is) (all_closed work props (more ++ H) legal.0) in
+    ap (instant_writes form) (same_instant props (more ++ H) t closed e legal.1.may legal.1.answers) ∙ writes_stay work form props H t more legal.0 is

@@ -86,10 +86,10 @@ in_tiles A g key live here =
     all a b c p q r = cc
 
 -- no key has two live groups
-pub one_live : (A : Table) (g h : GroupRef) (key : Key) → IsBuckets A.buckets → is_live A g ≡ true → is_live A h ≡ true → key_in g key ≡ true → key_in h key ≡ true → g ≡ h
+pub one_live : (A : Table) (g h : GroupRef) (key : Key) → IsBuckets A.props.buckets → is_live A g ≡ true → is_live A h ≡ true → key_in g key ≡ true → key_in h key ≡ true → g ≡ h
 one_live A g h key fit live_g live_h in_g in_h =
     let slot = slot_of key.1 in
-    let one = one_of (groups_at slot (tiles_of A key.0)) (first-tiling key.0 A.buckets fit slot (slot_within key.1)) in
+    let one = one_of (groups_at slot (tiles_of A key.0)) (first-tiling key.0 A.props.buckets fit slot (slot_within key.1)) in
     same-is g one.0 (among-one slot (tiles_of A key.0) one.0 g one.1 ∙ in_tiles A g key live_g in_g)
     ∙ sym (same-is h one.0 (among-one slot (tiles_of A key.0) one.0 h one.1 ∙ in_tiles A h key live_h in_h))
 
@@ -135,7 +135,7 @@ module _ (form : BlockForm) (times : List ℕ) (key : Key) where
       by true same rest = ap (λ ws. ws ++ flat_map found (gone_to s bs)) (block_none b.to b rows.0 (ap (λ (r : Target). key_in r.group key) (one_target b.to s same) ∙ other)) ∙ rest
       by false apart rest = rest
 
-  module _ (A : Table) (fit : IsBuckets A.buckets) (bs : List PlacedBlock) (rows : AllWriteBlocks form bs) where
+  module _ (A : Table) (fit : IsBuckets A.props.buckets) (bs : List PlacedBlock) (rows : AllWriteBlocks form bs) where
     abbrev by_group : List GroupRef → List Write
     by_group gs = flat_map (λ g. flat_map found (gone_to (target_of_group g) bs)) gs
 
@@ -176,7 +176,7 @@ module _ (form : BlockForm) (times : List ℕ) (key : Key) where
             ∙ later (or_rest (is_same_group g h) (is_among gs g) other among)
 
   -- in the order in which the blocks came
-  in_one : (A : Table) (fit : IsBuckets A.buckets) (g : GroupRef) (bs : List PlacedBlock) → AllWriteBlocks form bs → AllByRecursion (λ b. IsOwn A b.to) bs → is_live A g ≡ true → key_in g key ≡ true
+  in_one : (A : Table) (fit : IsBuckets A.props.buckets) (g : GroupRef) (bs : List PlacedBlock) → AllWriteBlocks form bs → AllByRecursion (λ b. IsOwn A b.to) bs → is_live A g ≡ true → key_in g key ≡ true
       → flat_map found bs ≡ flat_map found (gone_to (target_of_group g) bs)
   in_one A fit g [] rows own live here = refl
   in_one A fit g (b ∷ bs) rows own live here = by (is_target b.to (target_of_group g)) refl (in_one A fit g bs rows.1 own.1 live here)
@@ -217,7 +217,7 @@ of_among P (h ∷ gs) g all among = by (is_same_group g h) refl (λ rest. of_amo
 
 -- ---- the tables that they leave
 
-pub groups_fold : (form : BlockForm) (times : List ℕ) (A : Table) (bs : List PlacedBlock) (gs : List GroupRef) → IsBuckets A.buckets → AllWriteBlocks form bs → AllByRecursion (λ b. IsOwn A b.to) bs
+pub groups_fold : (form : BlockForm) (times : List ℕ) (A : Table) (bs : List PlacedBlock) (gs : List GroupRef) → IsBuckets A.props.buckets → AllWriteBlocks form bs → AllByRecursion (λ b. IsOwn A b.to) bs
     → AllByRecursion (λ g. is_live A g ≡ true) gs → IsStrictlySortedBy group_cmp gs → AllByRecursion (λ b. is_among gs b.to.group ≡ true) bs
     → table_after_all empty (flat_map (λ g. flat_map (counted form times) (gone_to (target_of_group g) bs)) gs) ≡ table_after_all empty (flat_map (counted form times) bs)
 groups_fold form times A bs gs fit rows own lives sorted seen =

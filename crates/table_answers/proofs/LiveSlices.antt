@@ -21,6 +21,7 @@ use Rattle.table_history.specs.declared.step.PartitionSlots.{PartitionSlots}
 use Rattle.table_history.specs.declared.step.Step.{Step}
 use Rattle.table_history.specs.declared.step.Step.TheVariants.{Begin, Enter, Append, Finish, Abandon}
 use Rattle.table_history.proofs.Bounds.{number}
+use Rattle.table_props.specs.PropsTexts.{Told as Properties}
 
 -- the current slice of a live group
 pub record IsOwn (A : Table) (s : Target) : Type 0 where
@@ -124,10 +125,10 @@ module _ (A : Table) (H : History) (j : Job) (u n : ℕ) (plain : ArePlain A (in
   plain_then (Finish t checkpoint) (reply.Damaged name cause) may answers = failed_at t
   plain_then s r may answers = plain
 
-pub instants_plain : (work : Work) (name : List ℕ) (buckets : ℕ) (H : History) → IsLegal work (fresh name buckets) H → (u : ℕ) → ArePlain (fresh name buckets) (instant_of (fresh name buckets) H u)
-instants_plain work name buckets [] legal u = tt
-instants_plain work name buckets (e ∷ H) legal u =
-    plain_then (fresh name buckets) H e.job u (completions (fresh name buckets) H) (instants_plain work name buckets H legal.0 u) e.step e.reply legal.1.may legal.1.answers
+pub instants_plain : (work : Work) (props : Properties) (H : History) → IsLegal work (fresh props) H → (u : ℕ) → ArePlain (fresh props) (instant_of (fresh props) H u)
+instants_plain work props [] legal u = tt
+instants_plain work props (e ∷ H) legal u =
+    plain_then (fresh props) H e.job u (completions (fresh props) H) (instants_plain work props H legal.0 u) e.step e.reply legal.1.may legal.1.answers
 
 -- ---- where appends go
 

@@ -32,12 +32,13 @@ use Rattle.table_images.proofs.WhereTo.{itself_target, known_apart, known_here, 
 use Rattle.table_answers.specs.NamedRuns.{AllNamesFit}
 use Rattle.table_answers.proofs.LiveSlices.{appending, goes_there, instants_plain}
 use Rattle.table_answers.proofs.Placed.{PlacedBlock, bytes_of_placed, chain, chain_then, gone_to, placed_at, placed_by}
+use Rattle.table_props.specs.PropsTexts.{Told as Properties}
 
 -- ---- texts
 
 pub record IsText (A : Table) (s : Target) (fs : List KnownFile) (log : LogFile) (bs : List PlacedBlock) : Type 0 where
   pub named : IsNamed (file_of_log s log)
-  pub bytes : bytes_in fs (name_of A.name (file_of_log s log)) ≡ bytes_of_placed bs
+  pub bytes : bytes_in fs (name_of A.props.name (file_of_log s log)) ≡ bytes_of_placed bs
   pub long : log.length ≡ length (bytes_of_placed bs)
 
 abbrev pub AreTexts : Table → Target → List KnownFile → List LogFile → List (List PlacedBlock) → Type 0
@@ -61,7 +62,7 @@ pub record IsChained (A : Table) (H : History) (s : Target) : Type 0 where
   pub texts : AreTexts A s (files_of A H) (logs_of A H s) (chain A H s)
   pub unused : is_unused A H s ≡ true → AreBelow (version_in_use A H s) (logs_of A H s)
   pub used : is_unused A H s ≡ false → HasNewest A H s (logs_of A H s)
-  pub absent : (v a : ℕ) → IsNamed (log_file A s v a) → IsAhead A H s v → bytes_in (files_of A H) (name_of A.name (log_file A s v a)) ≡ []
+  pub absent : (v a : ℕ) → IsNamed (log_file A s v a) → IsAhead A H s v → bytes_in (files_of A H) (name_of A.props.name (log_file A s v a)) ≡ []
 
 -- ---- names apart
 
@@ -73,19 +74,19 @@ not_itself : (a b : ℕ) → a ≡ b → (a < b) ⊎ (b < a) → ⊥
 not_itself a b same (inl less) = omega (arith, same, less)
 not_itself a b same (inr more) = omega (arith, same, more)
 
-other_version : (A : Table) (f g : FileName) → IsNamed f → IsNamed g → (version_of f < version_of g) ⊎ (version_of g < version_of f) → name_of A.name f ≡ name_of A.name g → ⊥
-other_version A f g hf hg apart same = not_itself (version_of f) (version_of g) (ap version_of (name_of_injective A.name f g hf hg same)) apart
+other_version : (A : Table) (f g : FileName) → IsNamed f → IsNamed g → (version_of f < version_of g) ⊎ (version_of g < version_of f) → name_of A.props.name f ≡ name_of A.props.name g → ⊥
+other_version A f g hf hg apart same = not_itself (version_of f) (version_of g) (ap version_of (name_of_injective A.props.name f g hf hg same)) apart
 
 -- more bytes in a log of a greater version
 texts_apart : (A : Table) (s : Target) (fs : List KnownFile) (of : FileName) (bytes : List ℕ) (logs : List LogFile) (bss : List (List PlacedBlock)) → IsNamed of → AreBelow (version_of of) logs
-    → AreTexts A s fs logs bss → AreTexts A s (with_bytes of (name_of A.name of) bytes fs) logs bss
+    → AreTexts A s fs logs bss → AreTexts A s (with_bytes of (name_of A.props.name of) bytes fs) logs bss
 texts_apart A s fs of bytes [] [] named below texts = tt
 texts_apart A s fs of bytes [] (bs ∷ rest) named below texts = absurd texts
 texts_apart A s fs of bytes (log ∷ logs) [] named below texts = absurd texts
 texts_apart A s fs of bytes (log ∷ logs) (bs ∷ rest) named below texts = (
   record {
     named = texts.0.named;
-    bytes = known_apart of (name_of A.name of) bytes fs (name_of A.name (file_of_log s log))
+    bytes = known_apart of (name_of A.props.name of) bytes fs (name_of A.props.name (file_of_log s log))
         (other_version A (file_of_log s log) of texts.0.named named (inl below.0)) ∙ texts.0.bytes;
     long = texts.0.long;
   },
@@ -107,7 +108,7 @@ module _ (A : Table) (H K : History) (b : PlacedBlock) (s : Target) (named : IsN
   of = log_in_use A H s
 
   abbrev fs : List KnownFile
-  fs = with_bytes of (name_of A.name of) b.bytes (files_of A H)
+  fs = with_bytes of (name_of A.props.name of) b.bytes (files_of A H)
 
   abbrev made : LogFile
   made = record { version = v; session = A.session; attempt = attempts A H; length = length b.bytes }
@@ -117,12 +118,12 @@ module _ (A : Table) (H K : History) (b : PlacedBlock) (s : Target) (named : IsN
       subst (λ gs. AreTexts A s gs (logs_of A K s) (chain A K s)) (sym placed.files)
       (subst (λ ls. AreTexts A s fs ls (chain A K s)) (sym logs_are) (subst (λ cs. AreTexts A s fs logs cs) (sym bss_are) texts))
 
-  absent_then : (w a : ℕ) → IsNamed (log_file A s w a) → IsAhead A K s w → bytes_in (files_of A K) (name_of A.name (log_file A s w a)) ≡ []
+  absent_then : (w a : ℕ) → IsNamed (log_file A s w a) → IsAhead A K s w → bytes_in (files_of A K) (name_of A.props.name (log_file A s w a)) ≡ []
   absent_then w a is_named (inr this) = let wrong : true ≡ false = sym this.1 ∙ placed.used in absurd cc
   absent_then w a is_named (inl above) =
       let up : v < w = subst (λ n. n < w) placed.same above in
-      ap (λ (gs : List KnownFile). bytes_in gs (name_of A.name (log_file A s w a))) placed.files
-      ∙ known_apart of (name_of A.name of) b.bytes (files_of A H) (name_of A.name (log_file A s w a)) (other_version A (log_file A s w a) of is_named named (inr up))
+      ap (λ (gs : List KnownFile). bytes_in gs (name_of A.props.name (log_file A s w a))) placed.files
+      ∙ known_apart of (name_of A.props.name of) b.bytes (files_of A H) (name_of A.props.name (log_file A s w a)) (other_version A (log_file A s w a) of is_named named (inr up))
       ∙ was.absent w a is_named (inl up)
 
   chained : (logs : List LogFile) (bss : List (List PlacedBlock)) → logs_of A K s ≡ logs → chain A K s ≡ bss → AreTexts A s fs logs bss → HasNewest A K s logs → IsChained A K s
@@ -138,14 +139,14 @@ module _ (A : Table) (H K : History) (b : PlacedBlock) (s : Target) (named : IsN
       let attempt : attempts A H ≡ attempt_in_use A H s = ap (λ c. cond c (attempts A H) (opened_at A H s)) (sym unused) in
       let file : file_of_log s made ≡ of = ap (log_file A s v) attempt in
       let below : AreBelow v (logs_of A H s) = was.unused unused in
-      let empty : bytes_in (files_of A H) (name_of A.name of) ≡ [] = was.absent v (attempt_in_use A H s) named (inr (refl, unused)) in
+      let empty : bytes_in (files_of A H) (name_of A.props.name of) ≡ [] = was.absent v (attempt_in_use A H s) named (inr (refl, unused)) in
       let one : bytes_of_placed (b ∷ []) ≡ b.bytes = append-nil b.bytes in
       chained (made ∷ logs_of A H s) ((b ∷ []) ∷ chain A H s)
       (placed.logs ∙ ap (λ c. cond c (made ∷ logs_of A H s) (lengthened (length b.bytes) (logs_of A H s))) unused)
       (chain_is ∙ ap (λ c. chain_then (b ∷ []) c (chain A H s)) unused) (
         record {
           named = subst IsNamed (sym file) named;
-          bytes = ap (λ f. bytes_in fs (name_of A.name f)) file ∙ known_here of (name_of A.name of) b.bytes (files_of A H) ∙ ap (λ old. old ++ b.bytes) empty ∙ sym one;
+          bytes = ap (λ f. bytes_in fs (name_of A.props.name f)) file ∙ known_here of (name_of A.props.name of) b.bytes (files_of A H) ∙ ap (λ old. old ++ b.bytes) empty ∙ sym one;
           long = ap length (sym one);
         },
         texts_apart A s (files_of A H) of b.bytes (logs_of A H s) (chain A H s) named below was.texts,
@@ -165,8 +166,8 @@ module _ (A : Table) (H K : History) (b : PlacedBlock) (s : Target) (named : IsN
       (chain_is ∙ ap (λ c. chain_then (b ∷ []) c (chain A H s)) used ∙ ap (chain_then (b ∷ []) false) bss_are) (
         record {
           named = texts.0.named;
-          bytes = ap (λ f. bytes_in fs (name_of A.name f)) newest.0 ∙ known_here of (name_of A.name of) b.bytes (files_of A H)
-              ∙ ap (λ f. bytes_in (files_of A H) (name_of A.name f) ++ b.bytes) (sym newest.0) ∙ ap (λ old_bytes. old_bytes ++ b.bytes) texts.0.bytes ∙ sym more;
+          bytes = ap (λ f. bytes_in fs (name_of A.props.name f)) newest.0 ∙ known_here of (name_of A.props.name of) b.bytes (files_of A H)
+              ∙ ap (λ f. bytes_in (files_of A H) (name_of A.props.name f) ++ b.bytes) (sym newest.0) ∙ ap (λ old_bytes. old_bytes ++ b.bytes) texts.0.bytes ∙ sym more;
           long = let long = ap length more in omega (arith, long, old, length-append (bytes_of_placed bs) b.bytes);
         },
         texts_apart A s (files_of A H) of b.bytes logs rest named newest.1 texts.1,
@@ -194,7 +195,7 @@ chained_failed A H K s failing same was = record {
       (subst (λ ls. AreTexts A s (files_of A H) ls (chain A K s)) (sym failing.logs) (subst (AreTexts A s (files_of A H) (logs_of A H s)) (sym same) was.texts));
   unused = λ unused. subst (AreBelow (version_in_use A K s)) (sym failing.logs) (by (is_unused A H s) refl);
   used = λ used. let wrong : true ≡ false = sym failing.unused ∙ used in absurd cc;
-  absent = λ v a named ahead. ap (λ (gs : List KnownFile). bytes_in gs (name_of A.name (log_file A s v a))) failing.files ∙ was.absent v a named (inl (up v ahead));
+  absent = λ v a named ahead. ap (λ (gs : List KnownFile). bytes_in gs (name_of A.props.name (log_file A s v a))) failing.files ∙ was.absent v a named (inl (up v ahead));
 }
   where
     by : (c : Bool) → is_unused A H s ≡ c → AreBelow (version_in_use A K s) (logs_of A H s)
@@ -214,7 +215,7 @@ newest_as A H K s (log ∷ logs) file version newest = (newest.0 ∙ sym file, s
 -- the bytes of its logs are the same
 abbrev KeepsBytes : Table → Target → List KnownFile → List KnownFile → Type 0
 KeepsBytes A s fs gs = (version : ℕ) (token : Token) → IsNamed (Log s.group s.slice version token)
-    → bytes_in gs (name_of A.name (Log s.group s.slice version token)) ≡ bytes_in fs (name_of A.name (Log s.group s.slice version token))
+    → bytes_in gs (name_of A.props.name (Log s.group s.slice version token)) ≡ bytes_in fs (name_of A.props.name (Log s.group s.slice version token))
 
 texts_kept : (A : Table) (s : Target) (fs gs : List KnownFile) (logs : List LogFile) (bss : List (List PlacedBlock)) → KeepsBytes A s fs gs → AreTexts A s fs logs bss → AreTexts A s gs logs bss
 texts_kept A s fs gs [] [] keeps texts = tt
@@ -246,7 +247,7 @@ chained_left A H K s slice in_use keeps same was = record {
     as_before v (inr this) = inr (sym slice.version ∙ this.0, sym slice.unused ∙ this.1)
 
 same_bytes : (A : Table) (s : Target) (fs gs : List KnownFile) → gs ≡ fs → KeepsBytes A s fs gs
-same_bytes A s fs gs same version token named = ap (λ (hs : List KnownFile). bytes_in hs (name_of A.name (Log s.group s.slice version token))) same
+same_bytes A s fs gs same version token named = ap (λ (hs : List KnownFile). bytes_in hs (name_of A.props.name (Log s.group s.slice version token))) same
 
 chained_quiet : (A : Table) (H : History) (j : Job) (st : Step) (r : Reply) (s : Target) → IsNoAppend st → touches A H st s ≡ false → placed_by A H st r ≡ []
     → IsChained A H s → IsChained A (entry j st r ∷ H) s
@@ -262,10 +263,10 @@ log_of (Log group slice version token) = Some (record { group = group; slice = s
 log_of _ = None
 
 other_slice : (A : Table) (r s : Target) (version v a : ℕ) (token : Token) → (r ≡ s → ⊥) → IsNamed (Log s.group s.slice version token) → IsNamed (log_file A r v a)
-    → name_of A.name (Log s.group s.slice version token) ≡ name_of A.name (log_file A r v a) → ⊥
+    → name_of A.props.name (Log s.group s.slice version token) ≡ name_of A.props.name (log_file A r v a) → ⊥
 unfolding log_of
 other_slice A r s version v a token apart named is_named same =
-    apart (sym (one_some (ap log_of (name_of_injective A.name (Log s.group s.slice version token) (log_file A r v a) named is_named same))))
+    apart (sym (one_some (ap log_of (name_of_injective A.props.name (Log s.group s.slice version token) (log_file A r v a) named is_named same))))
   where
     one_some : {X : Type 0} {x y : X} → Some x ≡ Some y → x ≡ y
     one_some e = cc
@@ -299,8 +300,8 @@ module _ (A : Table) (H : History) (j : Job) (t target writes : ℕ) (bytes : Li
       let apart = not_same r s other in
       chained_left A H K s (same_slice A H (entry j (Append t target writes bytes) (reply.Placed version at)) s (elsewhere other)) (placing_is.others.in_use s apart)
       (λ v token is_named.
-      ap (λ (gs : List KnownFile). bytes_in gs (name_of A.name (Log s.group s.slice v token))) placing_is.files
-      ∙ known_apart (log_in_use A H r) (name_of A.name (log_in_use A H r)) bytes (files_of A H) (name_of A.name (Log s.group s.slice v token))
+      ap (λ (gs : List KnownFile). bytes_in gs (name_of A.props.name (Log s.group s.slice v token))) placing_is.files
+      ∙ known_apart (log_in_use A H r) (name_of A.props.name (log_in_use A H r)) bytes (files_of A H) (name_of A.props.name (Log s.group s.slice v token))
       (other_slice A r s v (version_in_use A H r) (attempt_in_use A H r) token apart is_named named))
       (ap (λ (o : Option Target). chain_then (gone_to s (placed_at t bytes o)) (is_unused A H s) (chain A H s)) is
       ∙ ap (λ bs. chain_then bs (is_unused A H s) (chain A H s)) (gone_elsewhere t bytes r s other))
@@ -359,19 +360,19 @@ chained_then A H j (Unpin pin) r s to answers names was = chained_quiet A H j (U
 chained_then A H j (Read from number at len) r s to answers names was = chained_quiet A H j (Read from number at len) r s tt refl refl was
 chained_then A H j (Abandon t) r s to answers names was = chained_quiet A H j (Abandon t) r s tt refl refl was
 
-appends_to : (work : Work) (name : List ℕ) (buckets : ℕ) (H : History) (j : Job) (st : Step) → IsLegal work (fresh name buckets) H → May (fresh name buckets) H j st
-    → (t target writes : ℕ) (bytes : List ℕ) → st ≡ Append t target writes bytes → (q : Target) × (target_at (fresh name buckets) H t target ≡ Some q)
-appends_to work name buckets H j st legal may t target writes bytes is =
-    let to = appending (fresh name buckets) H j t target (instants_plain work name buckets H legal t) (subst (May (fresh name buckets) H j) is may) in
-    (to.0, goes_there (fresh name buckets) H t target to.0 to.1)
+appends_to : (work : Work) (props : Properties) (H : History) (j : Job) (st : Step) → IsLegal work (fresh props) H → May (fresh props) H j st
+    → (t target writes : ℕ) (bytes : List ℕ) → st ≡ Append t target writes bytes → (q : Target) × (target_at (fresh props) H t target ≡ Some q)
+appends_to work props H j st legal may t target writes bytes is =
+    let to = appending (fresh props) H j t target (instants_plain work props H legal t) (subst (May (fresh props) H j) is may) in
+    (to.0, goes_there (fresh props) H t target to.0 to.1)
 
-pub logs_have_blocks : (work : Work) (name : List ℕ) (buckets : ℕ) (H : History) (s : Target) → IsLegal work (fresh name buckets) H → AllNamesFit (fresh name buckets) H → IsChained (fresh name buckets) H s
-logs_have_blocks work name buckets [] s legal names = record {
+pub logs_have_blocks : (work : Work) (props : Properties) (H : History) (s : Target) → IsLegal work (fresh props) H → AllNamesFit (fresh props) H → IsChained (fresh props) H s
+logs_have_blocks work props [] s legal names = record {
   texts = tt;
   unused = λ unused. tt;
   used = λ used. let wrong : true ≡ false = used in absurd cc;
   absent = λ v a named ahead. refl;
 }
-logs_have_blocks work name buckets (e ∷ H) s legal names =
-    chained_then (fresh name buckets) H e.job e.step e.reply s (appends_to work name buckets H e.job e.step legal.0 legal.1.may) legal.1.answers names.0
-    (logs_have_blocks work name buckets H s legal.0 names.1)
+logs_have_blocks work props (e ∷ H) s legal names =
+    chained_then (fresh props) H e.job e.step e.reply s (appends_to work props H e.job e.step legal.0 legal.1.may) legal.1.answers names.0
+    (logs_have_blocks work props H s legal.0 names.1)

@@ -1,5 +1,5 @@
 -- A query in turn answers the fold of the completed instants.
-use Rattle.std.proofs.Common.{◌≡◌, ℕ, Bool, true, false, ◌&&◌, List, [], map, zero-add, ◌∷◌, ◌++◌, Option, Some, None, Ok, slice_get, refl, sym, ap, subst, ◌∙◌}
+use Rattle.std.proofs.Common.{◌≡◌, ℕ, Bool, true, false, ◌&&◌, List, [], length, map, zero-add, ◌∷◌, ◌++◌, Option, Some, None, Ok, slice_get, refl, sym, ap, subst, ◌∙◌}
 use Rattle.std.specs.Prelude.{filter, nat_le, reverse}
 use Rattle.std.specs.FinMap.{empty}
 use Rattle.std.specs.List.{AllByRecursion, flat_map}
@@ -31,9 +31,9 @@ use Rattle.table_history.specs.declared.view.GroupParts.{GroupParts}
 use Rattle.table_history.specs.declared.view.Part.{Part}
 use Rattle.table_history.specs.declared.view.View.{View}
 use Rattle.table_jobs.specs.Replies.{ending, first_of_two, told}
-use Rattle.table_query.specs.Answers.{IsAnswer, IsMadeOf, IsQueryReply, reply_with}
+use Rattle.table_query.specs.Answers.{AreReadInTurn, IsAnswer, IsMadeOf, IsQueryReply, reply_with}
 use Rattle.table_query.specs.GroupReading.{TableReading, view_writes}
-use Rattle.table_query.specs.ReadBytes.{IsReadWhole, bytes_read, pinned}
+use Rattle.table_query.specs.ReadBytes.{bytes_read, pinned}
 use Rattle.upsert_writer.specs.Blocks.{BlockForm}
 use Rattle.table_answers.specs.InTurn.{CarriesForm, IsInTurn, IsMadeBy}
 use Rattle.table_answers.specs.InstantWrites.{writes_of}
@@ -48,8 +48,9 @@ use Rattle.table_answers.proofs.Placed.{placed, placed_at, placed_by}
 use Rattle.table_answers.proofs.WriteBlocks.{AllWriteBlocks, all_write_blocks}
 use Rattle.table_answers.proofs.Times.{falls_filtered, fold_is, rises_reversed}
 use Rattle.table_answers.proofs.Turns.{Falls, completed_fall}
-use Rattle.table_answers.proofs.ViewWrites.{groups_written, view_long, with_parts, writes_by_group}
+use Rattle.table_answers.proofs.ViewWrites.{groups_are_read, groups_written, view_long, with_parts, writes_by_group}
 use Rattle.table_answers.proofs.Writes.{fresh_opened, in_order}
+use Rattle.table_props.specs.PropsTexts.{Told as Properties}
 
 -- ---- what the entries tell
 
@@ -78,41 +79,41 @@ own_more : (A : Table) (H : History) (t : ℕ) (bytes : List ℕ) (o : Option Ta
 own_more A H t bytes None own = tt
 own_more A H t bytes (Some s) own = (own s refl, tt)
 
-own_placed : (work : Work) (name : List ℕ) (buckets : ℕ) (H : History) → IsLegal work (fresh name buckets) H → AllByRecursion (λ b. IsOwn (fresh name buckets) b.to) (placed (fresh name buckets) H)
-own_placed work name buckets [] legal = tt
-own_placed work name buckets (e ∷ H) legal =
-    fit_more (λ b. IsOwn (fresh name buckets) b.to) (placed (fresh name buckets) H) (placed_by (fresh name buckets) H e.step e.reply) (own_placed work name buckets H legal.0)
+own_placed : (work : Work) (props : Properties) (H : History) → IsLegal work (fresh props) H → AllByRecursion (λ b. IsOwn (fresh props) b.to) (placed (fresh props) H)
+own_placed work props [] legal = tt
+own_placed work props (e ∷ H) legal =
+    fit_more (λ b. IsOwn (fresh props) b.to) (placed (fresh props) H) (placed_by (fresh props) H e.step e.reply) (own_placed work props H legal.0)
     (one e.step e.reply legal.1.may)
   where
     same : {x y : Target} → Some x ≡ Some y → x ≡ y
     same is = cc
 
-    one : (st : Step) (r : Reply) → May (fresh name buckets) H e.job st → AllByRecursion (λ b. IsOwn (fresh name buckets) b.to) (placed_by (fresh name buckets) H st r)
+    one : (st : Step) (r : Reply) → May (fresh props) H e.job st → AllByRecursion (λ b. IsOwn (fresh props) b.to) (placed_by (fresh props) H st r)
     one (Append t target writes bytes) (reply.Placed version at) may =
-        let to = appending (fresh name buckets) H e.job t target (instants_plain work name buckets H legal.0 t) may in
-        own_more (fresh name buckets) H t bytes (target_at (fresh name buckets) H t target)
-        (λ s is. subst (IsOwn (fresh name buckets)) (same (sym (goes_there (fresh name buckets) H t target to.0 to.1) ∙ is)) to.1.own)
+        let to = appending (fresh props) H e.job t target (instants_plain work props H legal.0 t) may in
+        own_more (fresh props) H t bytes (target_at (fresh props) H t target)
+        (λ s is. subst (IsOwn (fresh props)) (same (sym (goes_there (fresh props) H t target to.0 to.1) ∙ is)) to.1.own)
     one st r may = tt
 
-module _ (form : BlockForm) (buckets : ℕ) (fit : IsBuckets buckets) (work : Work) (before : History) (legal : IsLegal work (fresh form.table buckets) before) (turn : IsInTurn before)
-    (carries : CarriesForm form before) (names : AllNamesFit (fresh form.table buckets) before) (at : Option ℕ) where
+module _ (form : BlockForm) (props : Properties) (fit : IsBuckets props.buckets) (work : Work) (before : History) (legal : IsLegal work (fresh props) before) (turn : IsInTurn before)
+    (carries : CarriesForm form before) (names : AllNamesFit (fresh props) before) (at : Option ℕ) where
   abbrev A : Table
-  A = fresh form.table buckets
+  A = fresh props
 
   abbrev reading : TableReading
   reading = record { rows = form.reading; table = form.table }
 
   chained : (s : Target) → IsChained A before s
-  chained s = logs_have_blocks work form.table buckets before s legal names
+  chained s = logs_have_blocks work props before s legal names
 
   rows : AllWriteBlocks form (placed A before)
-  rows = all_write_blocks form work A before (fresh_opened form.table buckets) legal carries
+  rows = all_write_blocks form work A before (fresh_opened props) legal carries
 
   abbrev times : ℕ → List ℕ
   times t = filter (λ u. nat_le u t) (completed_instants A before)
 
   times_fall : (t : ℕ) → Falls (times t)
-  times_fall t = falls_filtered (λ u. nat_le u t) (completed_instants A before) (completed_fall work form.table buckets before legal turn)
+  times_fall t = falls_filtered (λ u. nat_le u t) (completed_instants A before) (completed_fall work props before legal turn)
 
   lives_of : (t : ℕ) (gs : List GroupRef) → AreLive A (has_files A before t false) gs → AllByRecursion (λ g. is_live A g ≡ true) gs
   lives_of t gs live = each-among (λ g. is_live A g ≡ true) gs (λ g among. first (is_live A g) (has_files A before t false g) (sym (live.are g) ∙ among))
@@ -125,9 +126,9 @@ module _ (form : BlockForm) (buckets : ℕ) (fit : IsBuckets buckets) (work : Wo
   folded : (t : ℕ) (gs : List GroupRef) → AreLive A (has_files A before t false) gs
       → rows_of (table_after_all empty (writes_by_group form A before chained rows (reverse (times t)) gs)) ≡ rows_at form A before (Some t)
   folded t gs live =
-      let own = own_placed work form.table buckets before legal in
+      let own = own_placed work props before legal in
       ap rows_of (groups_fold form (reverse (times t)) A (placed A before) gs fit rows own (lives_of t gs live) live.order (placed_seen A before t gs live chained own))
-      ∙ ap (λ writes. rows_of (table_after_all empty writes)) (in_order form work form.table buckets before legal turn (reverse (times t)) (rises_reversed (times t) (times_fall t)))
+      ∙ ap (λ writes. rows_of (table_after_all empty writes)) (in_order form work props before legal turn (reverse (times t)) (rises_reversed (times t) (times_fall t)))
       ∙ ap rows_of (sym (fold_is (writes_of form A before) (times t) (times_fall t)))
 
   made_rows : (view : View) (bytes : ℕ → List ℕ) → IsView A before at false view → ((k : ℕ) (part : Part) → part_at view k ≡ Some part → bytes k ≡ bytes_in (files_of A before) part.name)
@@ -152,16 +153,38 @@ module _ (form : BlockForm) (buckets : ℕ) (fit : IsBuckets buckets) (work : Wo
           ap (reply_with view.t) writes ∙ ap (λ (o : Option ℕ). reply_with o (Ok (writes_by_group form A before chained rows (reverse (times t)) parts.groups))) time in
           subst (AnswersSnapshot form A before at) (sym found) (record { at_is = sym time ∙ is.t; rows_are = folded t parts.groups parts.live })
 
+  -- each file was read to its end
+  all_are : (view : View) (bytes : ℕ → List ℕ) → IsView A before at false view
+      → ((k : ℕ) (part : Part) → part_at view k ≡ Some part → length (bytes k) ≡ part.length → bytes k ≡ bytes_in (files_of A before) part.name)
+      → AreReadInTurn reading view.completed bytes 0 view.groups → (k : ℕ) (part : Part) → part_at view k ≡ Some part → bytes k ≡ bytes_in (files_of A before) part.name
+  all_are view bytes is whole read k part there = by view.t view.groups is.groups whole read there
+    where
+      parts_in : List GroupParts → List Part
+      parts_in groups = flat_map (λ (g : GroupParts). g.parts) groups
+
+      by : (time : Option ℕ) (groups : List GroupParts) → ArePartsAt A before time false groups
+          → ((k : ℕ) (part : Part) → slice_get (parts_in groups) k ≡ Some part → length (bytes k) ≡ part.length → bytes k ≡ bytes_in (files_of A before) part.name)
+          → AreReadInTurn reading view.completed bytes 0 groups → slice_get (parts_in groups) k ≡ Some part → bytes k ≡ bytes_in (files_of A before) part.name
+      by None groups none whole read there = let wrong : None ≡ Some part = sym (ap (λ (gs : List GroupParts). slice_get (parts_in gs) k) none) ∙ there in cc
+      by (Some t) groups parts whole read there =
+          ap bytes (sym (zero-add k))
+          ∙ groups_are_read form A before chained rows view.completed t bytes 0 parts.groups
+          (λ j p at long. ap bytes (zero-add j) ∙ whole j p (ap (λ (gs : List GroupParts). slice_get (parts_in gs) j) parts.are ∙ at) (ap (λ n. length (bytes n)) (sym (zero-add j)) ∙ long))
+          (subst (AreReadInTurn reading view.completed bytes 0) parts.are read) k part
+          (sym (ap (λ (gs : List GroupParts). slice_get (parts_in gs) k) parts.are) ∙ there)
+
   made_of : (view : View) (mine : List Entry) (given : JobReply) → IsView A before at false view → BeginsParts (files_of A before) mine view → IsMadeOf reading view (bytes_read mine) given
       → AnswersSnapshot form A before at given
   made_of view mine given is begins made = by given made
     where
-      from : (given : JobReply) → IsReadWhole view (bytes_read mine) × (given ≡ reply_with view.t (view_writes reading view.completed (bytes_read mine) view.groups)) → AnswersSnapshot form A before at given
+      from : (given : JobReply) → AreReadInTurn reading view.completed (bytes_read mine) 0 view.groups × (given ≡ reply_with view.t (view_writes reading view.completed (bytes_read mine) view.groups)) → AnswersSnapshot form A before at given
       from given found =
           subst (AnswersSnapshot form A before at) (sym found.1)
           (made_rows view (bytes_read mine) is
-          (λ k part there. whole_beginning (bytes_read mine k) (bytes_in (files_of A before) part.name) (begins k part there)
-          (found.0 k part there ∙ sym (view_long form A before chained rows at view is k part there))))
+          (all_are view (bytes_read mine) is
+          (λ k part there long. whole_beginning (bytes_read mine k) (bytes_in (files_of A before) part.name) (begins k part there)
+          (long ∙ sym (view_long form A before chained rows at view is k part there)))
+          found.0))
 
       by : (given : JobReply) → IsMadeOf reading view (bytes_read mine) given → AnswersSnapshot form A before at given
       by job_reply.Memory made = tt
@@ -174,13 +197,13 @@ module _ (form : BlockForm) (buckets : ℕ) (fit : IsBuckets buckets) (work : Wo
   answered mine given None None is tells views answer_is = subst (AnswersSnapshot form A before at) (sym answer_is) tt
   answered mine given None (Some view) is tells views made = made_of view mine given (views view is).0 (views view is).1 made
 
-pub snapshot_is_fold : (work : Work) (form : BlockForm) (buckets : ℕ) (before after : History) (job : Job) (mine : List Entry) (at : Option ℕ) (given : JobReply) → IsBuckets buckets
-    → IsMadeBy job before after mine → IsLegal work (fresh form.table buckets) after → AllNamesFit (fresh form.table buckets) before → IsInTurn before → CarriesForm form before → AllByRecursion IsUndamaged mine
-    → IsQueryReply (record { rows = form.reading; table = form.table }) at mine given → AnswersSnapshot form (fresh form.table buckets) before at given
-snapshot_is_fold work form buckets before after job mine at given fit made legal names turn carries whole answers =
-    let A : Table = fresh form.table buckets in
+pub snapshot_is_fold : (work : Work) (form : BlockForm) (props : Properties) (before after : History) (job : Job) (mine : List Entry) (at : Option ℕ) (given : JobReply) → IsBuckets props.buckets
+    → IsMadeBy job before after mine → IsLegal work (fresh props) after → AllNamesFit (fresh props) before → IsInTurn before → CarriesForm form before → AllByRecursion IsUndamaged mine
+    → IsQueryReply (record { rows = form.reading; table = form.table }) at mine given → AnswersSnapshot form (fresh props) before at given
+snapshot_is_fold work form props before after job mine at given fit made legal names turn carries whole answers =
+    let A : Table = fresh props in
     let all : IsLegal work A (mine ++ before) = subst (IsLegal work A) made.are legal in
     let first : IsLegal work A before = legal_before work A before mine all in
     let read : IsSoFar A before at mine (phase mine) =
-    files_read work A before at job (view_long form A before (chained form buckets fit work before first turn carries names at) (rows form buckets fit work before first turn carries names at) at) made.first mine made.all answers.pins all in
-    answered form buckets fit work before first turn carries names at mine given (told mine) (pinned mine) refl (tells form A before at mine whole) read.views answers.answer
+    files_read work A before at job (view_long form A before (chained form props fit work before first turn carries names at) (rows form props fit work before first turn carries names at) at) made.first mine made.all answers.pins all in
+    answered form props fit work before first turn carries names at mine given (told mine) (pinned mine) refl (tells form A before at mine whole) read.views answers.answer

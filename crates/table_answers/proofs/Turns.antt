@@ -18,6 +18,7 @@ use Rattle.table_history.specs.declared.step.Step.TheVariants.{Begin, Enter, App
 use Rattle.table_images.proofs.SameLogs.{entry}
 use Rattle.table_answers.specs.InTurn.{IsInTurn, IsItsTurn}
 use Rattle.table_answers.proofs.Made.{job_itself}
+use Rattle.table_props.specs.PropsTexts.{Told as Properties}
 
 -- times that strictly fall
 abbrev pub Falls : List ℕ → Type 0
@@ -161,29 +162,29 @@ its_turn A job (x ∷ H) (inl same) last empty = subst (λ k. IsTurned (phase (o
 its_turn A job (x ∷ H) (inr none) last empty =
     subst (λ es. IsTurned (phase es) (greatest_time A (x ∷ H)) (completed_instants A (x ∷ H))) (sym none) (record { runs = tt; bounded = last.bounded; falls = last.falls })
 
-last_job : (work : Work) (name : List ℕ) (buckets : ℕ) (H : History) → IsLegal work (fresh name buckets) H → IsInTurn H → LastJob (fresh name buckets) H
-last_job work name buckets [] legal turn = tt
-last_job work name buckets (e ∷ H) legal turn =
-    let was = its_turn (fresh name buckets) e.job H turn.0 (last_job work name buckets H legal.0 turn.1) refl in
-    subst (λ es. IsTurned (phase es) (greatest_time (fresh name buckets) (e ∷ H)) (completed_instants (fresh name buckets) (e ∷ H)))
+last_job : (work : Work) (props : Properties) (H : History) → IsLegal work (fresh props) H → IsInTurn H → LastJob (fresh props) H
+last_job work props [] legal turn = tt
+last_job work props (e ∷ H) legal turn =
+    let was = its_turn (fresh props) e.job H turn.0 (last_job work props H legal.0 turn.1) refl in
+    subst (λ es. IsTurned (phase es) (greatest_time (fresh props) (e ∷ H)) (completed_instants (fresh props) (e ∷ H)))
     (sym (ap (λ b. cond b (e ∷ own e.job H) (own e.job H)) (job_itself e.job)))
-    (turned_then (fresh name buckets) H e.job work e.step e.reply (phase (own e.job H)) legal.1.answers legal.2 was)
+    (turned_then (fresh props) H e.job work e.step e.reply (phase (own e.job H)) legal.1.answers legal.2 was)
 
 -- of the job whose turn it is
-pub turned : (work : Work) (name : List ℕ) (buckets : ℕ) (H : History) (job : Job) → IsLegal work (fresh name buckets) H → IsInTurn H → IsItsTurn job H
-    → IsTurned (phase (own job H)) (greatest_time (fresh name buckets) H) (completed_instants (fresh name buckets) H)
-turned work name buckets H job legal turn its = its_turn (fresh name buckets) job H its (last_job work name buckets H legal turn) refl
+pub turned : (work : Work) (props : Properties) (H : History) (job : Job) → IsLegal work (fresh props) H → IsInTurn H → IsItsTurn job H
+    → IsTurned (phase (own job H)) (greatest_time (fresh props) H) (completed_instants (fresh props) H)
+turned work props H job legal turn its = its_turn (fresh props) job H its (last_job work props H legal turn) refl
 
 -- completed times fall
-pub completed_fall : (work : Work) (name : List ℕ) (buckets : ℕ) (H : History) → IsLegal work (fresh name buckets) H → IsInTurn H → Falls (completed_instants (fresh name buckets) H)
-completed_fall work name buckets [] legal turn = tt
-completed_fall work name buckets (e ∷ H) legal turn = (last_job work name buckets (e ∷ H) legal turn).falls
+pub completed_fall : (work : Work) (props : Properties) (H : History) → IsLegal work (fresh props) H → IsInTurn H → Falls (completed_instants (fresh props) H)
+completed_fall work props [] legal turn = tt
+completed_fall work props (e ∷ H) legal turn = (last_job work props (e ∷ H) legal turn).falls
 
 -- an append goes to the instant that was drawn last
-pub appends_last : (work : Work) (name : List ℕ) (buckets : ℕ) (H : History) (job : Job) (t target writes : ℕ) (bytes : List ℕ) → IsLegal work (fresh name buckets) H → IsInTurn H → IsItsTurn job H
-    → Allows work job (phase (own job H)) (Append t target writes bytes) → t ≡ greatest_time (fresh name buckets) H
-appends_last work name buckets H job t target writes bytes legal turn its allowed = by (phase (own job H)) allowed (turned work name buckets H job legal turn its)
+pub appends_last : (work : Work) (props : Properties) (H : History) (job : Job) (t target writes : ℕ) (bytes : List ℕ) → IsLegal work (fresh props) H → IsInTurn H → IsItsTurn job H
+    → Allows work job (phase (own job H)) (Append t target writes bytes) → t ≡ greatest_time (fresh props) H
+appends_last work props H job t target writes bytes legal turn its allowed = by (phase (own job H)) allowed (turned work props H job legal turn its)
   where
-    by : (p : Phase) → Allows work job p (Append t target writes bytes) → IsTurned p (greatest_time (fresh name buckets) H) (completed_instants (fresh name buckets) H) → t ≡ greatest_time (fresh name buckets) H
+    by : (p : Phase) → Allows work job p (Append t target writes bytes) → IsTurned p (greatest_time (fresh props) H) (completed_instants (fresh props) H) → t ≡ greatest_time (fresh props) H
     by (Writes u targets placed) allowed was = allowed.0 ∙ was.runs.0
     by _ allowed was = absurd allowed

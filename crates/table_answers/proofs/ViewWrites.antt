@@ -1,6 +1,6 @@
 -- What the bytes of a view's files hold: the writes of the placed blocks that count, in their order.
 use Rattle.std.proofs.Common.{◌≡◌, ◌⊎◌, inl, inr, ◌+◌, ℕ, zero, suc, Bool, true, false, cond, List, [], ◌∷◌, ◌++◌, map, length, Option, Some, None, Ok, slice_get, refl, sym, ap, subst, ◌∙◌, arith, zero-add}
-use Rattle.std.specs.Prelude.{reverse}
+use Rattle.std.specs.Prelude.{IfOk, reverse}
 use Rattle.std.specs.List.{AllByRecursion, flat_map}
 use Rattle.std.proofs.lemmas.List.{reverse-append}
 use Rattle.table_history.specs.Histories.{History}
@@ -15,6 +15,7 @@ use Rattle.table_history.specs.declared.log_file.LogFile.{LogFile}
 use Rattle.table_history.specs.declared.view.GroupParts.{GroupParts}
 use Rattle.table_history.specs.declared.view.Part.{Part}
 use Rattle.table_history.specs.declared.view.View.{View}
+use Rattle.table_query.specs.Answers.{AreReadInTurn}
 use Rattle.table_query.specs.GroupReading.{TableReading, files_in, followed_by, group_writes, writes_in}
 use Rattle.table_query.specs.GroupReading as query
 use Rattle.payload_merge.specs.declared.row.Write.{Write}
@@ -72,6 +73,19 @@ get_either : {X : Type 0} (xs ys : List X) (k : ℕ) (x : X) → slice_get (xs +
 get_either [] ys k x is = inr (k, is)
 get_either (y ∷ xs) ys zero x is = inl is
 get_either (y ∷ xs) ys (suc k) x is = get_either xs ys k x is
+
+get_parted : {X : Type 0} (xs ys : List X) (k : ℕ) (x : X) → slice_get (xs ++ ys) k ≡ Some x → (slice_get xs k ≡ Some x) ⊎ ((n : ℕ) × (k ≡ length xs + n) × (slice_get ys n ≡ Some x))
+get_parted [] ys k x is = inr (k, sym (zero-add k), is)
+get_parted (y ∷ xs) ys zero x is = inl is
+get_parted (y ∷ xs) ys (suc k) x is = further (get_parted xs ys k x is)
+  where
+    next : (n m j : ℕ) → n ≡ m + j → suc n ≡ suc m + j
+    next n m j e = omega (arith, e)
+
+    further : (slice_get xs k ≡ Some x) ⊎ ((n : ℕ) × (k ≡ length xs + n) × (slice_get ys n ≡ Some x))
+        → (slice_get (y ∷ xs) (suc k) ≡ Some x) ⊎ ((n : ℕ) × (suc k ≡ length (y ∷ xs) + n) × (slice_get ys n ≡ Some x))
+    further (inl at) = inl at
+    further (inr (n, e, at)) = inr (n, next k (length xs) n e, at)
 
 -- ---- the parts
 
@@ -139,6 +153,17 @@ module _ (form : BlockForm) (A : Table) (H : History) (chained : (s : Target) �
   abbrev pub writes_by_group : List ℕ → List GroupRef → List Write
   writes_by_group times gs = flat_map (λ g. flat_map (counted form times) (gone_to (target_of_group g) (placed A H))) gs
 
+  -- the writes that the bytes of a group hold
+  group_written : (times : List ℕ) (t : ℕ) (bytes : ℕ → List ℕ) (n : ℕ) (g : GroupRef)
+      → ((k : ℕ) (part : Part) → slice_get (parts_to (target_of_group g)) k ≡ Some part → bytes (n + k) ≡ bytes_in (files_of A H) part.name)
+      → group_writes reading times bytes n (with_parts t g) ≡ Ok (flat_map (counted form times) (gone_to (target_of_group g) (placed A H)))
+  group_written times t bytes n g are =
+      let s : Target = target_of_group g in
+      let read : query.logs_of bytes n (parts_to s) ≡ Ok (part_logs form s A (logs_to s) (blocks_to s) (all s)) =
+      logs_read form s A (files_of A H) bytes n (logs_to s) (blocks_to s) (all s) (texts s) are in
+      ap (writes_in reading times g) read ∙ logs_written form s A times (logs_to s) (blocks_to s) (all s) (files_of A H) (texts s)
+      ∙ ap (λ bs. Ok (flat_map (counted form times) bs)) (chain_is_placed A H s)
+
   -- the writes that the bytes of groups hold
   pub groups_written : (times : List ℕ) (t : ℕ) (bytes : ℕ → List ℕ) (n : ℕ) (gs : List GroupRef)
       → ((k : ℕ) (part : Part) → slice_get (parts_of (map (with_parts t) gs)) k ≡ Some part → bytes (n + k) ≡ bytes_in (files_of A H) part.name)
@@ -147,14 +172,43 @@ module _ (form : BlockForm) (A : Table) (H : History) (chained : (s : Target) �
   groups_written times t bytes n (g ∷ gs) are =
       let s : Target = target_of_group g in
       let rest : List Part = parts_of (map (with_parts t) gs) in
-      let read : query.logs_of bytes n (parts_to s) ≡ Ok (part_logs form s A (logs_to s) (blocks_to s) (all s)) =
-      logs_read form s A (files_of A H) bytes n (logs_to s) (blocks_to s) (all s) (texts s) (λ k part there. are k part (get_front (parts_to s) rest k part there)) in
-      let written : writes_in reading times g (query.logs_of bytes n (parts_to s)) ≡ Ok (flat_map (counted form times) (gone_to s (placed A H))) =
-      ap (writes_in reading times g) read ∙ logs_written form s A times (logs_to s) (blocks_to s) (all s) (files_of A H) (texts s)
-      ∙ ap (λ bs. Ok (flat_map (counted form times) bs)) (chain_is_placed A H s) in
+      let written = group_written times t bytes n g (λ k part there. are k part (get_front (parts_to s) rest k part there)) in
       let later = groups_written times t bytes (n + length (parts_to s)) gs (λ k part there. ap bytes (along n (length (parts_to s)) k) ∙ are (length (parts_to s) + k) part (get_back (parts_to s) rest k part there)) in
       ap (λ found. followed_by found (query.all_from files_in (group_writes reading times bytes) (n + length (parts_to s)) (map (with_parts t) gs))) written
       ∙ ap (followed_by (Ok (flat_map (counted form times) (gone_to s (placed A H))))) later
     where
       along : (n m k : ℕ) → (n + m) + k ≡ n + (m + k)
       along n m k = omega arith
+
+  -- Groups that are read in turn are all read where what was read of a file to its end is the file: each has a reading.
+  pub groups_are_read : (times : List ℕ) (t : ℕ) (bytes : ℕ → List ℕ) (n : ℕ) (gs : List GroupRef)
+      → ((k : ℕ) (part : Part) → slice_get (parts_of (map (with_parts t) gs)) k ≡ Some part → length (bytes (n + k)) ≡ part.length → bytes (n + k) ≡ bytes_in (files_of A H) part.name)
+      → AreReadInTurn reading times bytes n (map (with_parts t) gs)
+      → (k : ℕ) (part : Part) → slice_get (parts_of (map (with_parts t) gs)) k ≡ Some part → bytes (n + k) ≡ bytes_in (files_of A H) part.name
+  groups_are_read times t bytes n [] whole read k part there = let wrong : None ≡ Some part = there in cc
+  groups_are_read times t bytes n (g ∷ gs) whole read k part there =
+      by (get_parted first rest k part there) (λ j at. groups_are_read times t bytes (n + length first) gs behind later j part at)
+    where
+      first : List Part
+      first = parts_to (target_of_group g)
+
+      rest : List Part
+      rest = parts_of (map (with_parts t) gs)
+
+      along : (n m k : ℕ) → (n + m) + k ≡ n + (m + k)
+      along n m k = omega arith
+
+      here : (j : ℕ) (p : Part) → slice_get first j ≡ Some p → bytes (n + j) ≡ bytes_in (files_of A H) p.name
+      here j p at = whole j p (get_front first rest j p at) (read.0 j p at)
+
+      later : AreReadInTurn reading times bytes (n + length first) (map (with_parts t) gs)
+      later = subst (λ found. IfOk found (λ writes. AreReadInTurn reading times bytes (n + length first) (map (with_parts t) gs))) (group_written times t bytes n g here) read.1
+
+      behind : (j : ℕ) (p : Part) → slice_get rest j ≡ Some p → length (bytes ((n + length first) + j)) ≡ p.length → bytes ((n + length first) + j) ≡ bytes_in (files_of A H) p.name
+      behind j p at long =
+          ap bytes (along n (length first) j) ∙ whole (length first + j) p (get_back first rest j p at) (ap (λ m. length (bytes m)) (sym (along n (length first) j)) ∙ long)
+
+      by : (slice_get first k ≡ Some part) ⊎ ((j : ℕ) × (k ≡ length first + j) × (slice_get rest j ≡ Some part))
+          → ((j : ℕ) → slice_get rest j ≡ Some part → bytes ((n + length first) + j) ≡ bytes_in (files_of A H) part.name) → bytes (n + k) ≡ bytes_in (files_of A H) part.name
+      by (inl at) others = here k part at
+      by (inr (j, is, at)) others = ap (λ m. bytes (n + m)) is ∙ ap bytes (sym (along n (length first) j)) ∙ others j at

@@ -28,6 +28,7 @@ use Rattle.table_answers.specs.InstantWrites.{block_writes, instant_writes, plac
 use Rattle.table_answers.proofs.LiveSlices.{ArePlain, IsAppending, appending, goes_there, instants_plain}
 use Rattle.table_answers.proofs.Placed.{PlacedBlock, placed, placed_at, placed_by}
 use Rattle.table_answers.proofs.Turns.{appends_last}
+use Rattle.table_props.specs.PropsTexts.{Told as Properties}
 
 -- the writes of a placed block, where its instant is one of these
 abbrev pub counted : BlockForm → List ℕ → PlacedBlock → List Write
@@ -152,8 +153,8 @@ order_quiet form A H j s r none same was times rises =
     ap (λ bs. flat_map (counted form times) (placed A H ++ bs)) none ∙ ap (flat_map (counted form times)) (append-nil (placed A H)) ∙ was times rises
     ∙ sym (same_each (writes_of form A (entry j s r ∷ H)) (writes_of form A H) times same)
 
-pub fresh_opened : (name : List ℕ) (buckets : ℕ) → IsOpened (fresh name buckets)
-fresh_opened name buckets t i is = let wrong : None ≡ Some i = is in cc
+pub fresh_opened : (props : Properties) → IsOpened (fresh props)
+fresh_opened props t i is = let wrong : None ≡ Some i = is in cc
 
 -- a block more in an instant
 pub one_block_more : (form : BlockForm) (A : Table) (H : History) (j : Job) (t target writes version at : ℕ) (bytes : List ℕ) (s : Target) → IsAppending A H t target s → (u : ℕ)
@@ -163,9 +164,9 @@ one_block_more form A H j t target writes version at bytes s to u =
     (λ i here is. ap (λ (x : Instant). slice_get x.targets target) (some_same i to.i (sym is ∙ ap (instant_of A H) (sym (number t u here)) ∙ to.is)) ∙ to.to)
     (λ here none. none_some (instant_of A H t) to.i to.is (ap (instant_of A H) (number t u here) ∙ none))
 
-module _ (form : BlockForm) (work : Work) (name : List ℕ) (buckets : ℕ) (H : History) (legal : IsLegal work (fresh name buckets) H) (was : InOrder form (fresh name buckets) H) (j : Job) where
+module _ (form : BlockForm) (work : Work) (props : Properties) (H : History) (legal : IsLegal work (fresh props) H) (was : InOrder form (fresh props) H) (j : Job) where
   abbrev A : Table
-  A = fresh name buckets
+  A = fresh props
 
   module _ (t target writes version at : ℕ) (bytes : List ℕ) (s : Target) (to : IsAppending A H t target s) (last : t ≡ greatest_time A H) where
     abbrev K : History
@@ -175,7 +176,7 @@ module _ (form : BlockForm) (work : Work) (name : List ℕ) (buckets : ℕ) (H :
     b = record { t = t; to = s; bytes = bytes }
 
     none_later : (u : ℕ) → t < u → writes_of form A H u ≡ []
-    none_later u above = ap (instant_writes form) (undrawn A H (fresh_opened name buckets) u (omega (arith, above, last)))
+    none_later u above = ap (instant_writes form) (undrawn A H (fresh_opened props) u (omega (arith, above, last)))
 
     order_placed : InOrder form A K
     order_placed times rises =
@@ -186,18 +187,18 @@ module _ (form : BlockForm) (work : Work) (name : List ℕ) (buckets : ℕ) (H :
         ∙ sym (same_each (writes_of form A K) (λ u. writes_of form A H u ++ cond (t == u) (block_writes form (Some s) bytes) []) times (one_block_more form A H j t target writes version at bytes s to))
 
   plain : (t : ℕ) → ArePlain A (instant_of A H t)
-  plain = instants_plain work name buckets H legal
+  plain = instants_plain work props H legal
 
   same_for : (s : Step) (r : Reply) → IsNoAppend s → May A H j s → Answers A H s r → (u : ℕ) → writes_of form A (entry j s r ∷ H) u ≡ writes_of form A H u
-  same_for s r other may answers u = same_writes form A H (fresh_opened name buckets) j u (completions A H) plain s r other may answers
+  same_for s r other may answers u = same_writes form A H (fresh_opened props) j u (completions A H) plain s r other may answers
 
   order_then : (s : Step) (r : Reply) → May A H j s → Answers A H s r → Allows work j (phase (own j H)) s → IsInTurn H → IsItsTurn j H → InOrder form A (entry j s r ∷ H)
   order_then (Append t target writes bytes) (reply.Placed version at) may answers allowed turn its =
       let to = appending A H j t target (plain t) may in
-      order_placed t target writes version at bytes to.0 to.1 (appends_last work name buckets H j t target writes bytes legal turn its allowed)
+      order_placed t target writes version at bytes to.0 to.1 (appends_last work props H j t target writes bytes legal turn its allowed)
   order_then (Append t target writes bytes) reply.Fault may answers allowed turn its =
       order_quiet form A H j (Append t target writes bytes) reply.Fault refl
-      (λ u. failed_writes form A H (fresh_opened name buckets) j u (completions A H) plain t target writes bytes) was
+      (λ u. failed_writes form A H (fresh_opened props) j u (completions A H) plain t target writes bytes) was
   order_then (Append t target writes bytes) _ may answers allowed turn its = absurd answers
   order_then Begin r may answers allowed turn its = order_quiet form A H j Begin r refl (same_for Begin r tt may answers) was
   order_then (Enter t slots) r may answers allowed turn its = order_quiet form A H j (Enter t slots) r refl (same_for (Enter t slots) r tt may answers) was
@@ -208,11 +209,11 @@ module _ (form : BlockForm) (work : Work) (name : List ℕ) (buckets : ℕ) (H :
       order_quiet form A H j (Read from number_of offset len) r refl (same_for (Read from number_of offset len) r tt may answers) was
   order_then (Abandon t) r may answers allowed turn its = order_quiet form A H j (Abandon t) r refl (same_for (Abandon t) r tt may answers) was
 
-in_order_first : (form : BlockForm) (name : List ℕ) (buckets : ℕ) (times : List ℕ) → [] ≡ flat_map (writes_of form (fresh name buckets) []) times
-in_order_first form name buckets [] = refl
-in_order_first form name buckets (u ∷ us) = in_order_first form name buckets us
+in_order_first : (form : BlockForm) (props : Properties) (times : List ℕ) → [] ≡ flat_map (writes_of form (fresh props) []) times
+in_order_first form props [] = refl
+in_order_first form props (u ∷ us) = in_order_first form props us
 
-pub in_order : (form : BlockForm) (work : Work) (name : List ℕ) (buckets : ℕ) (H : History) → IsLegal work (fresh name buckets) H → IsInTurn H → InOrder form (fresh name buckets) H
-in_order form work name buckets [] legal turn = λ times rises. in_order_first form name buckets times
-in_order form work name buckets (e ∷ H) legal turn =
-    order_then form work name buckets H legal.0 (in_order form work name buckets H legal.0 turn.1) e.job e.step e.reply legal.1.may legal.1.answers legal.2 turn.1 turn.0
+pub in_order : (form : BlockForm) (work : Work) (props : Properties) (H : History) → IsLegal work (fresh props) H → IsInTurn H → InOrder form (fresh props) H
+in_order form work props [] legal turn = λ times rises. in_order_first form props times
+in_order form work props (e ∷ H) legal turn =
+    order_then form work props H legal.0 (in_order form work props H legal.0 turn.1) e.job e.step e.reply legal.1.may legal.1.answers legal.2 turn.1 turn.0

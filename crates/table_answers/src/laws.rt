@@ -19,6 +19,7 @@ ghost use Rattle.table_history.specs.declared.job.Job.{Job};
 ghost use Rattle.table_images.specs.Blocks.{work_of};
 ghost use Rattle.table_images.specs.Runs.{IsRun, Run, history_of};
 ghost use Rattle.table_jobs.specs.Replies.{IsWriterReply};
+ghost use Rattle.table_props.specs.PropsTexts.{Told as Properties};
 ghost use Rattle.table_query.specs.Answers.{IsQueryReply};
 ghost use Rattle.table_query.specs.ReadBytes.{PinsAt};
 ghost use Rattle.upsert_writer.specs.Answers.{AnswersBatch};
@@ -69,13 +70,12 @@ pub fn beginnings_are_legal<W: Work>()
 /// up to the one that it pinned. So it is on a table that began without instants, where jobs came in turn, each append
 /// carried a block of the form, and no file was damaged.
 pub fn snapshots_are_folds<W: Work>()
-    ensures { (form : BlockForm) (buckets : ℕ) (before after : History) (job : Job) (mine : List Entry) (at : Option ℕ)
-        (given : JobReply) → IsBuckets buckets → IsMadeBy job before after mine
-        → IsLegal (work_of W.asks W.holds) (fresh form.table buckets) after
-        → AllNamesFit (fresh form.table buckets) before
+    ensures { (form : BlockForm) (props : Properties) (before after : History) (job : Job) (mine : List Entry)
+        (at : Option ℕ) (given : JobReply) → IsBuckets props.buckets → IsMadeBy job before after mine
+        → IsLegal (work_of W.asks W.holds) (fresh props) after → AllNamesFit (fresh props) before
         → IsInTurn before → CarriesForm form before → AllByRecursion IsUndamaged mine
         → IsQueryReply (record { rows = form.reading; table = form.table }) at mine given
-        → AnswersSnapshot form (fresh form.table buckets) before at given }
+        → AnswersSnapshot form (fresh props) before at given }
 {}
 
 /// What a committed writer's instant wrote: group by group those writes of its batch that lie in the group, in their
@@ -83,36 +83,36 @@ pub fn snapshots_are_folds<W: Work>()
 /// completed then. Of rows to put or keys to delete that a writer answers with `Committed` none was refused, and what its
 /// instant wrote is their puts or their deletes.
 pub fn committed_batches<W: Work>()
-    ensures groups { (form : BlockForm) (buckets : ℕ) (batch : List Write) (before after : History) (job : Job)
-        (mine : List Entry) (t : ℕ) → IsMadeBy job before after mine
-        → IsLegal (work_of W.asks W.holds) (fresh form.table buckets) after → WritesBatch form batch mine
+    ensures groups { (form : BlockForm) (props : Properties) (batch : List Write) (before after : History)
+        (job : Job) (mine : List Entry) (t : ℕ) → IsMadeBy job before after mine
+        → IsLegal (work_of W.asks W.holds) (fresh props) after → WritesBatch form batch mine
         → IsWriterReply mine (Committed t)
-        → WritesGroups batch t (fresh form.table buckets) (writes_of form (fresh form.table buckets) after t) }
-    ensures wrote { (form : BlockForm) (buckets : ℕ) (batch : List Write) (before after : History) (job : Job)
-        (mine : List Entry) (t : ℕ) (group : GroupRef) → IsBuckets buckets → IsMadeBy job before after mine
-        → IsLegal (work_of W.asks W.holds) (fresh form.table buckets) after → WritesBatch form batch mine
-        → IsWriterReply mine (Committed t) → is_live (fresh form.table buckets) group ≡ true
+        → WritesGroups batch t (fresh props) (writes_of form (fresh props) after t) }
+    ensures wrote { (form : BlockForm) (props : Properties) (batch : List Write) (before after : History)
+        (job : Job) (mine : List Entry) (t : ℕ) (group : GroupRef) → IsBuckets props.buckets → IsMadeBy job before after mine
+        → IsLegal (work_of W.asks W.holds) (fresh props) after → WritesBatch form batch mine
+        → IsWriterReply mine (Committed t) → is_live (fresh props) group ≡ true
         → AllByRecursion (λ w. is_in_group group w ≡ true) batch
-        → writes_of form (fresh form.table buckets) after t ≡ writes_from t 0 batch }
-    ensures completed { (form : BlockForm) (buckets : ℕ) (batch : List Write) (before after : History) (job : Job)
-        (mine : List Entry) (t : ℕ) → IsMadeBy job before after mine
-        → IsLegal (work_of W.asks W.holds) (fresh form.table buckets) after → WritesBatch form batch mine
-        → IsWriterReply mine (Committed t) → is_completed (fresh form.table buckets) after t ≡ true }
-    ensures given { (form : BlockForm) (buckets : ℕ) (new : NewWrites) (batch : Batch) (before after : History) (job : Job)
-        (mine : List Entry) (t : ℕ) → IsMadeBy job before after mine
-        → IsLegal (work_of W.asks W.holds) (fresh form.table buckets) after
+        → writes_of form (fresh props) after t ≡ writes_from t 0 batch }
+    ensures completed { (form : BlockForm) (props : Properties) (batch : List Write) (before after : History)
+        (job : Job) (mine : List Entry) (t : ℕ) → IsMadeBy job before after mine
+        → IsLegal (work_of W.asks W.holds) (fresh props) after → WritesBatch form batch mine
+        → IsWriterReply mine (Committed t) → is_completed (fresh props) after t ≡ true }
+    ensures given { (form : BlockForm) (props : Properties) (new : NewWrites) (batch : Batch) (before after : History)
+        (job : Job) (mine : List Entry) (t : ℕ) → IsMadeBy job before after mine
+        → IsLegal (work_of W.asks W.holds) (fresh props) after
         → AnswersBatch form (batch_writes new batch) mine (Committed t)
         → IsOkAnd (batch_writes new batch) (λ writes.
-        WritesGroups writes t (fresh form.table buckets) (writes_of form (fresh form.table buckets) after t)) }
+        WritesGroups writes t (fresh props) (writes_of form (fresh props) after t)) }
 {}
 
 /// A completed instant stays completed, and its writes stay as they are, whatever comes after.
 pub fn completed_instants_stay<W: Work>()
-    ensures completed { (name : List ℕ) (buckets : ℕ) (H : History) (t : ℕ) (more : List Entry)
-        → IsLegal (work_of W.asks W.holds) (fresh name buckets) (more ++ H)
-        → is_completed (fresh name buckets) H t ≡ true → is_completed (fresh name buckets) (more ++ H) t ≡ true }
-    ensures wrote { (form : BlockForm) (buckets : ℕ) (H : History) (t : ℕ) (more : List Entry)
-        → IsLegal (work_of W.asks W.holds) (fresh form.table buckets) (more ++ H)
-        → is_completed (fresh form.table buckets) H t ≡ true
-        → writes_of form (fresh form.table buckets) (more ++ H) t ≡ writes_of form (fresh form.table buckets) H t }
+    ensures completed { (props : Properties) (H : History) (t : ℕ) (more : List Entry)
+        → IsLegal (work_of W.asks W.holds) (fresh props) (more ++ H)
+        → is_completed (fresh props) H t ≡ true → is_completed (fresh props) (more ++ H) t ≡ true }
+    ensures wrote { (form : BlockForm) (props : Properties) (H : History) (t : ℕ) (more : List Entry)
+        → IsLegal (work_of W.asks W.holds) (fresh props) (more ++ H)
+        → is_completed (fresh props) H t ≡ true
+        → writes_of form (fresh props) (more ++ H) t ≡ writes_of form (fresh props) H t }
 {}

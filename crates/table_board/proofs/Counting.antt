@@ -17,6 +17,7 @@ use Rattle.table_board.proofs.Drawing.{times_later}
 use Rattle.table_board.specs.Boards.{Keeps, IsBoard, faults_among, FaultsCounted, DrawsTime, DrawnTimes}
 use Rattle.table_board.specs.Journals.{JournalState}
 use Rattle.table_history.specs.declared.entry.Entry.{Entry}
+use Rattle.table_props.specs.PropsTexts.{Told as Properties, told_of}
 
 -- ---- faults
 
@@ -57,25 +58,25 @@ pub board_same : (work : Work) (c d : Control) (j k : JournalState) (first m n :
     → ((A : Table) (H : History) → IsControl A H c → IsControl A H d) → k.entries ≡ j.entries → k.owed ≡ j.owed → j.room ≤ k.room → m ≤ n
     → most ≤ℤ more → IsBoard work d k first n more
 board_same work c d j k first m n most more is tables entries owed room le later =
-    let kept : Keeps work (fresh c.table c.buckets) d k = kept_same work (fresh c.table c.buckets) c d j k is.keeps tables entries owed room in
+    let kept : Keeps work (fresh (told_of c.props)) d k = kept_same work (fresh (told_of c.props)) c d j k is.keeps tables entries owed room in
     record {
-      keeps = renamed work c.table c.buckets d k kept;
+      keeps = renamed work (told_of c.props) d k kept;
       faults = let P : History → Type 0 = λ H. FaultsCounted first H n in subst P (sym entries) (rises first m n (faults_among j.entries) le is.faults);
       drawn =
-          let P : History → Type 0 = λ H. DrawnTimes (fresh c.table c.buckets) more H in
+          let P : History → Type 0 = λ H. DrawnTimes (fresh (told_of c.props)) more H in
           let Q : Table → Type 0 = λ A. DrawnTimes A more k.entries in
-          subst Q (λ i. fresh (sym kept.tables.name i) (sym kept.tables.buckets i)) (subst P (sym entries) (times_later (fresh c.table c.buckets) most more j.entries later is.drawn));
+          subst Q (λ i. fresh (sym kept.tables.props i)) (subst P (sym entries) (times_later (fresh (told_of c.props)) most more j.entries later is.drawn));
     }
 
 -- one entry more
-pub board_more : (work : Work) (name : List ℕ) (buckets : ℕ) (d : Control) (H : History) (k : JournalState) (first m n : ℕ) (most : ℤ) (e : Entry) → Keeps work (fresh name buckets) d k
-    → FaultsCounted first H m → DrawnTimes (fresh name buckets) most H → k.entries ≡ e ∷ H → CountsFault m n (e.reply ≡ reply.Fault)
-    → DrawsTime (fresh name buckets) most H e.reply → IsBoard work d k first n most
-board_more work name buckets d H k first m n most e keeps before drawn entries counted draws = record {
-  keeps = renamed work name buckets d k keeps;
+pub board_more : (work : Work) (props : Properties) (d : Control) (H : History) (k : JournalState) (first m n : ℕ) (most : ℤ) (e : Entry) → Keeps work (fresh props) d k
+    → FaultsCounted first H m → DrawnTimes (fresh props) most H → k.entries ≡ e ∷ H → CountsFault m n (e.reply ≡ reply.Fault)
+    → DrawsTime (fresh props) most H e.reply → IsBoard work d k first n most
+board_more work props d H k first m n most e keeps before drawn entries counted draws = record {
+  keeps = renamed work props d k keeps;
   faults = let P : History → Type 0 = λ H. FaultsCounted first H n in subst P (sym entries) (faults_after first m n e.job e.step e.reply H counted before);
   drawn =
-      let P : History → Type 0 = λ H. DrawnTimes (fresh name buckets) most H in
+      let P : History → Type 0 = λ H. DrawnTimes (fresh props) most H in
       let Q : Table → Type 0 = λ A. DrawnTimes A most k.entries in
-      subst Q (λ i. fresh (sym keeps.tables.name i) (sym keeps.tables.buckets i)) (subst P (sym entries) (drawn, draws));
+      subst Q (λ i. fresh (sym keeps.tables.props i)) (subst P (sym entries) (drawn, draws));
 }

@@ -17,6 +17,7 @@ use Rattle.table_history.specs.declared.reply.Reply.TheVariants as reply
 use Rattle.table_history.specs.declared.step.Step.{Step}
 use Rattle.table_history.specs.declared.step.Step.TheVariants.{Begin, Enter, Append, Finish, Pin, Unpin, Read, Abandon}
 use Rattle.table_board.specs.Boards.{AsksClock, IsDrawn, DrawsTime, DrawnTimes, Shows}
+use Rattle.table_props.specs.PropsTexts.{Told as Properties}
 
 -- ---- one time
 
@@ -46,9 +47,9 @@ drawn_is most (negsuc n) g t low le is = record { above = is_above g t _ is; nex
 rises_to : (f g d : ℕ) → f ≤ g → f ≤ max g d
 rises_to f g d low = omega arith
 
-pub greatest_is_late : (name : List ℕ) (buckets : ℕ) (H : History) → first_time ≤ greatest_time (fresh name buckets) H
-greatest_is_late name buckets [] = omega arith
-greatest_is_late name buckets (e ∷ H) = rises_to first_time (greatest_time (fresh name buckets) H) (time_drawn e.reply) (greatest_is_late name buckets H)
+pub greatest_is_late : (props : Properties) (H : History) → first_time ≤ greatest_time (fresh props) H
+greatest_is_late props [] = omega arith
+greatest_is_late props (e ∷ H) = rises_to first_time (greatest_time (fresh props) H) (time_drawn e.reply) (greatest_is_late props H)
 
 -- ---- the clock goes on
 
@@ -88,16 +89,16 @@ draws_shown A H (Read from file at len) (reply.Began t) now clock fits shows dra
 draws_shown A H (Abandon u) (reply.Began t) now clock fits shows draws = absurd fits
 draws_shown A H s _ now clock fits shows draws = tt
 
-pub time_drawn_at : (name : List ℕ) (buckets : ℕ) (H : History) (s : Step) (r : Reply) (now : ℤ) (clock : ClockState) → IsReplyOf s r → Shows s now clock
-    → DrawsAt (fresh name buckets) H now r → DrawsTime (fresh name buckets) clock.most H r
-time_drawn_at name buckets H Begin (reply.Began t) now clock fits shows draws =
-    drawn_is clock.most now (greatest_time (fresh name buckets) H) t (greatest_is_late name buckets H) shows.1 draws
-time_drawn_at name buckets H (Enter u slots) (reply.Began t) now clock fits shows draws = absurd fits
-time_drawn_at name buckets H (Append u target writes bytes) (reply.Began t) now clock fits shows draws = absurd fits
-time_drawn_at name buckets H (Finish u checkpoint) (reply.Began t) now clock fits shows draws = absurd fits
-time_drawn_at name buckets H (Pin None bases_only) (reply.Began t) now clock fits shows draws = absurd fits
-time_drawn_at name buckets H (Pin (Some u) bases_only) (reply.Began t) now clock fits shows draws = absurd fits
-time_drawn_at name buckets H (Unpin pin) (reply.Began t) now clock fits shows draws = absurd fits
-time_drawn_at name buckets H (Read from file at len) (reply.Began t) now clock fits shows draws = absurd fits
-time_drawn_at name buckets H (Abandon u) (reply.Began t) now clock fits shows draws = absurd fits
-time_drawn_at name buckets H s _ now clock fits shows draws = tt
+pub time_drawn_at : (props : Properties) (H : History) (s : Step) (r : Reply) (now : ℤ) (clock : ClockState) → IsReplyOf s r → Shows s now clock
+    → DrawsAt (fresh props) H now r → DrawsTime (fresh props) clock.most H r
+time_drawn_at props H Begin (reply.Began t) now clock fits shows draws =
+    drawn_is clock.most now (greatest_time (fresh props) H) t (greatest_is_late props H) shows.1 draws
+time_drawn_at props H (Enter u slots) (reply.Began t) now clock fits shows draws = absurd fits
+time_drawn_at props H (Append u target writes bytes) (reply.Began t) now clock fits shows draws = absurd fits
+time_drawn_at props H (Finish u checkpoint) (reply.Began t) now clock fits shows draws = absurd fits
+time_drawn_at props H (Pin None bases_only) (reply.Began t) now clock fits shows draws = absurd fits
+time_drawn_at props H (Pin (Some u) bases_only) (reply.Began t) now clock fits shows draws = absurd fits
+time_drawn_at props H (Unpin pin) (reply.Began t) now clock fits shows draws = absurd fits
+time_drawn_at props H (Read from file at len) (reply.Began t) now clock fits shows draws = absurd fits
+time_drawn_at props H (Abandon u) (reply.Began t) now clock fits shows draws = absurd fits
+time_drawn_at props H s _ now clock fits shows draws = tt

@@ -29,15 +29,16 @@ use Rattle.table_board.specs.StoreChanges.{Changes}
 use Rattle.table_board.specs.Owed.{owed_steps, owed_after}
 use Rattle.table_board.specs.declared.acting.Outcome.{Outcome}
 use Rattle.table_board.specs.declared.acting.Outcome.TheVariants.{Memory}
+use Rattle.table_props.specs.PropsTexts.{Told as Properties, told_of}
 
 -- an origin of these parts
-abbrev pub origin_of : List ℕ → ℕ → ℕ → ℕ → Origin
-origin_of name buckets faults done = record { name = name; buckets = buckets; faults = faults; done = done }
+abbrev pub origin_of : Properties → ℕ → ℕ → Origin
+origin_of props faults done = record { props = props; faults = faults; done = done }
 
 -- the tables of another state of the control are of the same table
-pub renamed : (work : Work) (name : List ℕ) (buckets : ℕ) (c : Control) (j : JournalState) → Keeps work (fresh name buckets) c j → BoardKeeps work c j
-renamed work name buckets c j keeps =
-    let P : Table → Type 0 = λ A. Keeps work A c j in subst P (λ i. fresh (sym keeps.tables.name i) (sym keeps.tables.buckets i)) keeps
+pub renamed : (work : Work) (props : Properties) (c : Control) (j : JournalState) → Keeps work (fresh props) c j → BoardKeeps work c j
+renamed work props c j keeps =
+    let P : Table → Type 0 = λ A. Keeps work A c j in subst P (λ i. fresh (sym keeps.tables.props i)) keeps
 
 -- a job that keeps its law may ask the machine
 pub may_of : (work : Work) (A : Table) (c : Control) (j : JournalState) (job : Job) (s : Step) → Keeps work A c j
@@ -51,10 +52,10 @@ may_of work A c j job s keeps allows =
 pub asked_of : (work : Work) (c : Control) (j : JournalState) (job : Job) (s : Step) → BoardKeeps work c j
     → Allows work job (phase (own job j.entries)) s → IsAsked c job s
 asked_of work c j job s keeps allows = record {
-  table = fresh c.table c.buckets;
-  history = known_entries (fresh c.table c.buckets) j.entries;
+  table = fresh (told_of c.props);
+  history = known_entries (fresh (told_of c.props)) j.entries;
   tables = keeps.tables;
-  may = may_of work (fresh c.table c.buckets) c j job s keeps allows;
+  may = may_of work (fresh (told_of c.props)) c j job s keeps allows;
 }
 
 -- room that was made changes nothing else

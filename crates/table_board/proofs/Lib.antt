@@ -10,3 +10,4 @@ pub mod Drawing
 pub mod Going
 pub mod Honest
 pub mod Running
+pub mod Beginning

@@ -50,6 +50,7 @@ use Rattle.table_board.specs.KnownEntries.{known_entries, known_entry, known_rep
 use Rattle.table_board.specs.Outcomes.{HasTime, Leaves, MayEnd, Performs, reply_after}
 use Rattle.table_board.specs.declared.acting.Outcome.{Outcome}
 use Rattle.table_board.specs.declared.acting.Outcome.TheVariants.{Done, Piece, Fault, Damaged, Memory}
+use Rattle.table_props.specs.PropsTexts.{Told as Properties, told_of}
 
 -- ---- the first state
 
@@ -216,7 +217,7 @@ apart a b less same = omega (arith, less, same)
 
 named_group : (A : Table) (H : History) (c : Control) (s : Target) → IsControl A H c → IsCurrent (after_history A H) s → IsGroup s.group
 named_group A H c s tables current =
-    let first = first-is A.buckets s.group tables.fit current.live in
+    let first = first-is A.props.buckets s.group tables.fit current.live in
     record {
       partition = current.partition;
       lo = first.lo;
@@ -324,13 +325,13 @@ left_more work A H j _ old leaves next law files os runs = absurd leaves
 -- ---- the board's functions
 
 -- a step that was decided and done
-pub acted_on : (work : Work) (name : List ℕ) (buckets : ℕ) (c c1 c2 : Control) (j j2 : JournalState) (job : Job) (s : Step) (now : ℤ) (d : Decision) (o : Outcome) (r : Reply) (done : ℕ) (before honest : Type 0)
-    (old new : StoreState) → Keeps work (fresh name buckets) c j → Keeps work (fresh name buckets) c2 j2 → Allows work job (phase (own job j.entries)) s → Decides (fresh name buckets) (known_entries (fresh name buckets) j.entries) s now d
+pub acted_on : (work : Work) (props : Properties) (c c1 c2 : Control) (j j2 : JournalState) (job : Job) (s : Step) (now : ℤ) (d : Decision) (o : Outcome) (r : Reply) (done : ℕ) (before honest : Type 0)
+    (old new : StoreState) → Keeps work (fresh props) c j → Keeps work (fresh props) c2 j2 → Allows work job (phase (own job j.entries)) s → Decides (fresh props) (known_entries (fresh props) j.entries) s now d
     → Performs before d.op old new o → o ≢ Memory → r ≡ reply_after o d.op d.reply → ((A : Table) (H : History) → IsControl A H c → IsControl A H c1) → HasRoomFor c1 s d.reply → HasTime d.reply
-    → (honest → before) → KeepsRun work (fresh name buckets) done before old.told j.entries → j2.entries ≡ record { job = job; step = s; reply = r } ∷ j.entries
-    → KeepsRun work (fresh c2.table c2.buckets) done honest new.told j2.entries
-acted_on work name buckets c c1 c2 j j2 job s now d o r done before honest old new keeps keeps2 law decides performs known is tables room time same was entries =
-    let A : Table = fresh name buckets in
+    → (honest → before) → KeepsRun work (fresh props) done before old.told j.entries → j2.entries ≡ record { job = job; step = s; reply = r } ∷ j.entries
+    → KeepsRun work (fresh (told_of c2.props)) done honest new.told j2.entries
+acted_on work props c c1 c2 j j2 job s now d o r done before honest old new keeps keeps2 law decides performs known is tables room time same was entries =
+    let A : Table = fresh props in
     let H : History = j.entries in
     let e : Entry = record { job = job; step = s; reply = r } in
     let next : IsNext A (known_entries A H) (known_entry A (known_entries A H) e) =
@@ -339,7 +340,7 @@ acted_on work name buckets c c1 c2 j j2 job s now d o r done before honest old n
     let more : KeepsRun work A done honest new.told (e ∷ H) =
     run_more work A done before honest old.told new.told H e same was (λ h. is_done before d.op old.told new.told o h performs.leaves)
     (acted_more work A H c1 job s now d o r before old new (λ K at. tables A K (subst (λ (K : History). IsControl A K c) (sym at) keeps.tables)) (lit< tt) room time decides performs known is next law) in
-    subst (λ (B : Table). KeepsRun work B done honest new.told j2.entries) (λ i. fresh (sym keeps2.tables.name i) (sym keeps2.tables.buckets i))
+    subst (λ (B : Table). KeepsRun work B done honest new.told j2.entries) (λ i. fresh (sym keeps2.tables.props i))
     (subst (λ (K : History). KeepsRun work A done honest new.told K) (sym entries) more)
 
 -- no entry more, and the store did nothing
@@ -364,28 +365,28 @@ pub still_holds : (work : Work) (c c1 : Control) (j j1 : JournalState) (first do
     → ((A : Table) (H : History) → IsControl A H c → IsControl A H c1) → j1.entries ≡ j.entries → j1.owed ≡ j.owed → j.room ≤ j1.room → old.faults ≤ new.faults → new.told ≡ old.told → (honest → before)
     → BoardHolds work c1 j1 first done honest new most
 still_holds work c c1 j j1 first done before honest old new most holds tables entries owed room rose told same =
-    let now = tables (fresh c.table c.buckets) (known_entries (fresh c.table c.buckets) j.entries) holds.always.keeps.tables in
-    let same_table : fresh c.table c.buckets ≡ fresh c1.table c1.buckets = λ i. fresh (sym now.name i) (sym now.buckets i) in
+    let now = tables (fresh (told_of c.props)) (known_entries (fresh (told_of c.props)) j.entries) holds.always.keeps.tables in
+    let same_table : fresh (told_of c.props) ≡ fresh (told_of c1.props) = λ i. fresh (sym now.props i) in
     record {
       always = board_same work c c1 j j1 first old.faults new.faults most most holds.always tables entries owed room rose (≤ℤ_refl most);
       replies = subst (AllByRecursion HasOwnReply) (sym entries) holds.replies;
       on_honest =
           subst (λ (B : Table). KeepsRun work B done honest new.told j1.entries) same_table
-          (subst (λ (K : History). KeepsRun work (fresh c.table c.buckets) done honest new.told K) (sym entries)
-          (run_same work (fresh c.table c.buckets) done before honest old.told new.told j.entries same holds.on_honest told));
+          (subst (λ (K : History). KeepsRun work (fresh (told_of c.props)) done honest new.told K) (sym entries)
+          (run_same work (fresh (told_of c.props)) done before honest old.told new.told j.entries same holds.on_honest told));
     }
 
 -- a step by which a job leaves
-pub left_on : (work : Work) (name : List ℕ) (buckets : ℕ) (c c2 : Control) (j j2 : JournalState) (job : Job) (s : Step) (done : ℕ) (honest : Type 0) (told : Told) → Keeps work (fresh name buckets) c j
-    → Keeps work (fresh name buckets) c2 j2 → Allows work job (phase (own job j.entries)) s → IsLeaving s → KeepsRun work (fresh name buckets) done honest told j.entries
-    → j2.entries ≡ record { job = job; step = s; reply = reply.Done } ∷ j.entries → KeepsRun work (fresh c2.table c2.buckets) done honest told j2.entries
-left_on work name buckets c c2 j j2 job s done honest told keeps keeps2 law leaves was entries =
-    let A : Table = fresh name buckets in
+pub left_on : (work : Work) (props : Properties) (c c2 : Control) (j j2 : JournalState) (job : Job) (s : Step) (done : ℕ) (honest : Type 0) (told : Told) → Keeps work (fresh props) c j
+    → Keeps work (fresh props) c2 j2 → Allows work job (phase (own job j.entries)) s → IsLeaving s → KeepsRun work (fresh props) done honest told j.entries
+    → j2.entries ≡ record { job = job; step = s; reply = reply.Done } ∷ j.entries → KeepsRun work (fresh (told_of c2.props)) done honest told j2.entries
+left_on work props c c2 j j2 job s done honest told keeps keeps2 law leaves was entries =
+    let A : Table = fresh props in
     let H : History = j.entries in
     let more : KeepsRun work A done honest told (record { job = job; step = s; reply = reply.Done } ∷ H) =
     run_more work A done honest honest told told H (record { job = job; step = s; reply = reply.Done }) (λ h. h) was (λ h. record { did = None; told = refl })
     (λ h blocks files os stands opened runs. left_more work A H job s told leaves (left_of work A c j job s keeps law leaves) law files os runs) in
-    subst (λ (B : Table). KeepsRun work B done honest told j2.entries) (λ i. fresh (sym keeps2.tables.name i) (sym keeps2.tables.buckets i))
+    subst (λ (B : Table). KeepsRun work B done honest told j2.entries) (λ i. fresh (sym keeps2.tables.props i))
     (subst (λ (K : History). KeepsRun work A done honest told K) (sym entries) more)
 
 -- a step by which a job leaves is done

@@ -54,7 +54,7 @@ quiet_read : (A : Table) (H : History) (control : Control) (j : Job) (from : Rea
 quiet_read A H control j from file at len r is quiet = record {
   opened = is.opened;
   fit = is.fit;
-  name = is.name;
+  props = is.props;
   buckets = is.buckets;
   session = is.session;
   last = is.last ∙ sym (same_last (greatest_time A H) r quiet);

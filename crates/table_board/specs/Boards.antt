@@ -15,11 +15,11 @@ use Rattle.table_history.specs.declared.step.Step.TheVariants.{Begin}
 use Rattle.table_board.specs.Journals.{JournalState}
 use Rattle.table_board.specs.KnownEntries.{known_entries}
 use Rattle.table_board.specs.Owed.{owed_steps}
+use Rattle.table_props.specs.PropsTexts.{Told as Properties, told_of}
 
--- What a board was made of: the table, how often its store had failed, and how many operations the store had done.
+-- What a board was made of: the properties of its table, how often its store had failed, and how many operations the store had done.
 pub record Origin : Type 0 where
-  pub name : List ℕ
-  pub buckets : ℕ
+  pub props : Properties
   pub faults : ℕ
   pub done : ℕ
 
@@ -32,7 +32,7 @@ pub record BoardState (S C : Type 0) : Type 0 where
 
 -- The table as it was when the board was made. For now it had no instants.
 abbrev pub table_of : Origin → Table
-table_of origin = fresh origin.name origin.buckets
+table_of origin = fresh origin.props
 
 -- ---- a step
 
@@ -92,18 +92,18 @@ pub record Keeps (work : Work) (A : Table) (control : Control) (journal : Journa
   pub room : journal.owed ≤ journal.room
 
 abbrev pub BoardKeeps : Work → Control → JournalState → Type 0
-BoardKeeps work control journal = Keeps work (fresh control.table control.buckets) control journal
+BoardKeeps work control journal = Keeps work (fresh (told_of control.props)) control journal
 
 -- What always holds of a board: it keeps the above, its faults are counted, from the first count on, and its times were
 -- drawn.
 pub record IsBoard (work : Work) (control : Control) (journal : JournalState) (first now : ℕ) (most : ℤ) : Type 0 where
   pub keeps : BoardKeeps work control journal
   pub faults : FaultsCounted first journal.entries now
-  pub drawn : DrawnTimes (fresh control.table control.buckets) most journal.entries
+  pub drawn : DrawnTimes (fresh (told_of control.props)) most journal.entries
 
 -- nothing was taken into the control since it was made
 abbrev pub IsNewTable : Control → Type 0
-IsNewTable control = IsControl (fresh control.table control.buckets) [] control
+IsNewTable control = IsControl (fresh (told_of control.props)) [] control
 
 -- ---- the entries of a job
 

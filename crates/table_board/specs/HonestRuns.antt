@@ -19,6 +19,7 @@ use Rattle.table_images.specs.Stops.{IsAtStop}
 use Rattle.table_board.specs.Boards.{IsBoard, Origin, table_of}
 use Rattle.table_board.specs.Journals.{JournalState}
 use Rattle.table_board.specs.KnownEntries.{known_entries}
+use Rattle.table_props.specs.PropsTexts.{told_of}
 
 -- the files when the board was made: the first files after the first so many operations
 abbrev pub files_then : FileMap → ℕ → List Operation → FileMap
@@ -66,7 +67,7 @@ pub record BoardHolds (work : Work) (control : Control) (journal : JournalState)
     (store : StoreState) (most : ℤ) : Type 0 where
   pub always : IsBoard work control journal faults store.faults most
   pub replies : AllByRecursion HasOwnReply journal.entries
-  pub on_honest : KeepsRun work (fresh control.table control.buckets) done honest store.told journal.entries
+  pub on_honest : KeepsRun work (fresh (told_of control.props)) done honest store.told journal.entries
 
 -- ---- what follows
 

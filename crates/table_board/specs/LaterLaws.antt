@@ -84,3 +84,9 @@ alone_on job same last a b c First Second Both boards one two = record {
   adds = adds_on job a b c one.adds (subst (λ (j : Job). AddsOwn j b c) one.job_is two.adds);
   board = boards one.board two.board;
 }
+
+-- the table has the same properties
+pub alone_props : (job same : Job) (a b : History) (from to : Origin) (was is : Type 0) (old new : StoreState)
+    (before after : ClockState) → IsLaterSolo job same a b (IsLater from to was is old new before after)
+    → to.props ≡ from.props
+alone_props job same a b from to was is old new before after later = ap (λ origin. origin.props) later.board.origin

@@ -7,3 +7,4 @@ pub mod LaterLaws
 pub mod Outcomes
 pub mod Owed
 pub mod StoreChanges
+pub mod SchemaCodes

@@ -14,6 +14,7 @@ ghost use Rattle.table_history.specs.Histories.{own};
 ghost use Rattle.table_history.specs.JobLaw.{Allows, IsLegal, IsReplyOf, phase};
 ghost use Rattle.table_history.specs.Operations.{operation, DrawsAt};
 ghost use Rattle.table_images.specs.Blocks.{HoldsBlocks};
+ghost use Rattle.table_props.specs.PropsTexts.{told_of};
 
 use crate::acting::perform;
 use crate::journal::Journal;
@@ -25,7 +26,8 @@ use table_core::Control;
 use table_history::{Entry, Job, Mark, Reply, Step, Work};
 
 /// A table over a store and a clock. Contracts see its entries, the last one first, its store and its clock, and its
-/// origin: the table, how often the store had failed and how many operations it had done when the board was made.
+/// origin: the properties of the table, and how often the store had failed and how many operations it had done when the
+/// board was made.
 ///
 /// Over any store the entries are legal but for the bytes of the pieces that were read, at most as many of them are
 /// faults as the store's count rose by, and each time was drawn after the greatest one before it: just above it, or no
@@ -44,16 +46,25 @@ pub struct Board<S: Store, C: Clock, W: Work> {
 }
 
 impl<S: Store, C: Clock, W: Work> Model for Board<S, C, W> {
+    ghost use Rattle.table_props.specs.PropsTexts.{told_of};
     ghost use Rattle.table_board.specs.Boards.{BoardState};
     ghost use Rattle.table_board.specs.HonestRuns.{BoardHolds};
+    ghost use Rattle.table_board.specs.SchemaCodes.{schema_code};
+    ghost use Rattle.std.specs.Coded.{codes};
 
     ghost Value = { BoardState S C };
+
+    ghost coded = { Prim.hlevel (codes, schema_code) };
 
     ghost view = { λ board. record {
       entries = board.journal.entries;
       store = board.store;
       clock = board.clock;
-      origin = record { name = board.control.table; buckets = board.control.buckets; faults = board.first_faults; done = board.first_done };
+      origin = record {
+        props = told_of board.control.props;
+        faults = board.first_faults;
+        done = board.first_done;
+      };
     } };
 
     ghost invariant = { λ board. BoardHolds (record { Asks = W.asks; Holds = W.holds }) board.control board.journal
@@ -78,8 +89,7 @@ impl<S: Store, C: Clock, W: Work> Board<S, C, W> {
         ensures entries { result.entries ≡ [] }
         ensures store { result.store ≡ store }
         ensures clock { result.clock ≡ clock }
-        ensures name { result.origin.name ≡ control.table }
-        ensures buckets { result.origin.buckets ≡ control.buckets }
+        ensures props { result.origin.props ≡ told_of control.props }
         ensures faults { result.origin.faults ≡ (S.state store).faults }
         ensures done { IfSome (S.state store).told.operations (λ operations. result.origin.done ≡ length operations) }
     {

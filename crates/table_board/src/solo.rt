@@ -49,7 +49,9 @@ impl<S: Store, C: Clock, W: Work> Work for Solo<S, C, W> {
 impl<S: Store, C: Clock, W: Work> Steps for Solo<S, C, W> {
     ghost use Rattle.table_board.specs.Boards.{placed_own};
     ghost use Rattle.table_board.specs.Later.{IsLater, IsLaterSolo};
-    ghost use Rattle.table_board.specs.LaterLaws.{alone_itself, alone_on, later_itself, later_on};
+    ghost use Rattle.table_board.specs.LaterLaws.{alone_itself, alone_on, alone_props, later_itself, later_on};
+
+    ghost props = { λ solo. solo.board.origin.props };
 
     ghost seen = { λ solo. solo.board.entries };
 
@@ -71,6 +73,11 @@ impl<S: Store, C: Clock, W: Work> Steps for Solo<S, C, W> {
         (S.is_honest first.board.store) (S.is_honest second.board.store) (S.is_honest third.board.store)
         (S.state first.board.store) (S.state second.board.store) (S.state third.board.store)
         (C.state first.board.clock) (C.state second.board.clock) (C.state third.board.clock)) };
+
+    ghost later_props = { λ first second. alone_props first.job second.job first.board.entries second.board.entries
+        first.board.origin second.board.origin (S.is_honest first.board.store) (S.is_honest second.board.store)
+        (S.state first.board.store) (S.state second.board.store) (C.state first.board.clock)
+        (C.state second.board.clock) };
 
     #[tactic(auto, using(crate::proofs::Lanes::goes_on, crate::proofs::Lanes::ends_with, crate::proofs::Lanes::placed_more, crate::proofs::Lanes::own_of_placed))]
     fn apply(&mut self, step: Step) -> Reply {

@@ -234,7 +234,7 @@ placed_taken A H control job t target writes bytes version at tried s slices cou
     record {
       opened = is.opened;
       fit = is.fit;
-      name = is.name;
+      props = is.props;
       buckets = is.buckets;
       session = is.session;
       last = is.last ∙ sym (same_last (greatest_time A H) Done tt);
@@ -267,7 +267,7 @@ failed_taken A H control job t target writes bytes tried s slices is here gives 
     record {
       opened = is.opened;
       fit = is.fit;
-      name = is.name;
+      props = is.props;
       buckets = is.buckets;
       session = is.session;
       last = is.last ∙ sym (same_last (greatest_time A H) Done tt);

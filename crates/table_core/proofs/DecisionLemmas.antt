@@ -67,7 +67,7 @@ append_decides A H control t target writes s bytes now is at =
       answers = append_answers A H t target s slice.version (length_in_use slice) here known.version (length_of_slice A H s slice known);
       succeeds = tt;
       draws = tt;
-      op = ap (λ table. op.Append (name_of table (Log s.group s.slice slice.version (record { session = control.session; attempt = attempt_of slice control.attempts }))) bytes) is.name
-          ∙ ap (λ session. op.Append (name_of A.name (Log s.group s.slice slice.version (record { session = session; attempt = attempt_of slice control.attempts }))) bytes) is.session
+      op = ap (λ table. op.Append (name_of table (Log s.group s.slice slice.version (record { session = control.session; attempt = attempt_of slice control.attempts }))) bytes) (ap (λ props. props.name) is.props)
+          ∙ ap (λ session. op.Append (name_of A.props.name (Log s.group s.slice slice.version (record { session = session; attempt = attempt_of slice control.attempts }))) bytes) is.session
           ∙ append_operates A H t target s bytes slice.version (attempt_of slice control.attempts) here known.version (attempt_of_slice A H s slice control.attempts known is.attempts);
     }

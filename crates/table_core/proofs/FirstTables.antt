@@ -6,12 +6,13 @@ use Rattle.table_core.specs.ControlTables.{IsSlice}
 use Rattle.table_core.specs.SliceStates.{SliceState, no_logs}
 use Rattle.table_history.specs.Tables.{fresh}
 use Rattle.table_history.specs.declared.view.Part.{Part}
+use Rattle.table_props.specs.PropsTexts.{Told as Properties}
 
-abbrev none_yet : (name : List ℕ) (buckets : ℕ) (s : Target) → IsSlice (fresh name buckets) [] s no_logs
-none_yet name buckets s = record { logs = refl; version = refl; unused = refl; in_use = refl; later = λ v above. refl }
+abbrev none_yet : (props : Properties) (s : Target) → IsSlice (fresh props) [] s no_logs
+none_yet props s = record { logs = refl; version = refl; unused = refl; in_use = refl; later = λ v above. refl }
 
-pub no_slice : (name : List ℕ) (buckets : ℕ) (s : Target) (o : Option SliceState) → o ≡ None → IsSlice (fresh name buckets) [] s (unwrap_or o no_logs)
-no_slice name buckets s o none = let P : SliceState → Type 0 = λ slice. IsSlice (fresh name buckets) [] s slice in subst P (sym (ap (λ o. unwrap_or o no_logs) none)) (none_yet name buckets s)
+pub no_slice : (props : Properties) (s : Target) (o : Option SliceState) → o ≡ None → IsSlice (fresh props) [] s (unwrap_or o no_logs)
+no_slice props s o none = let P : SliceState → Type 0 = λ slice. IsSlice (fresh props) [] s slice in subst P (sym (ap (λ o. unwrap_or o no_logs) none)) (none_yet props s)
 
 pub no_part : (file : ℕ) (o : Option (List Part)) → o ≡ None → slice_get (unwrap_or o []) file ≡ None
 no_part file o none = ap (λ (o : Option (List Part)). slice_get (unwrap_or o []) file) none

@@ -44,7 +44,7 @@ pub pinned_taken : (A : Table) (H : History) (control : Control) (job : Job) (at
 pinned_taken A H control job at bases_only view pins left is files put = record {
   opened = is.opened;
   fit = is.fit;
-  name = is.name;
+  props = is.props;
   buckets = is.buckets;
   session = is.session;
   last = is.last ∙ sym (same_last (greatest_time A H) Done tt);
@@ -63,7 +63,7 @@ pub unpinned_taken : (A : Table) (H : History) (control : Control) (job : Job) (
 unpinned_taken A H control job pin pins is gone = record {
   opened = is.opened;
   fit = is.fit;
-  name = is.name;
+  props = is.props;
   buckets = is.buckets;
   session = is.session;
   last = is.last ∙ sym (same_last (greatest_time A H) Done tt);

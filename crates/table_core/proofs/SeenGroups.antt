@@ -221,7 +221,7 @@ module _ (A : Table) (H : History) (control : Control) (is : IsControl A H contr
       live_seen g parts.0 some there)
 
   parts_known : (es : Entries) → All (λ e. get target_cmp control.slices.slots e.0 ≡ Some e.1) es
-      → groups_among control.table control.buckets es
+      → groups_among control.props.name control.buckets es
       ≡ map (λ group. (let parts : GroupParts = record { group = group; parts = chain_at A H group t false } in parts)) (map group_of_entry (filter seen es))
   parts_known [] all = refl
   parts_known (e ∷ es) all = by_test (seen e) refl (parts_known es (All-tail (λ (e : Target × SliceState). get target_cmp control.slices.slots e.0 ≡ Some e.1) e es all))
@@ -229,22 +229,22 @@ module _ (A : Table) (H : History) (control : Control) (is : IsControl A H contr
       with_chain : GroupRef → GroupParts
       with_chain group = record { group = group; parts = chain_at A H group t false }
 
-      one : seen e ≡ true → parts_of_slice control.table e ≡ with_chain e.0.group
+      one : seen e ≡ true → parts_of_slice control.props.name e ≡ with_chain e.0.group
       one passes =
           let more = both (e.0.slice == e.0.group.born) _ (both (is_first control.buckets e.0.group) _ passes).1 in
           let target = own e.0 (number_is _ _ more.0) in
           let at = All-head (λ e. get target_cmp control.slices.slots e.0 ≡ Some e.1) e es all in
           ap (λ parts. (let p : GroupParts = record { group = e.0.group; parts = parts } in p))
-          (ap (λ name. map (part_named name e.0) (reverse e.1.logs)) is.name
-          ∙ ap (λ logs. map (part_named A.name e.0) (reverse logs)) (logs_known e.0 e.1 at)
-          ∙ ap (λ s. map (part_named A.name s) (reverse (logs_of A H s))) target)
+          (ap (λ name. map (part_named name e.0) (reverse e.1.logs)) (ap (λ props. props.name) is.props)
+          ∙ ap (λ logs. map (part_named A.props.name e.0) (reverse logs)) (logs_known e.0 e.1 at)
+          ∙ ap (λ s. map (part_named A.props.name s) (reverse (logs_of A H s))) target)
 
-      by_test : (b : Bool) → seen e ≡ b → map (parts_of_slice control.table) (filter seen es) ≡ map with_chain (map group_of_entry (filter seen es))
-          → map (parts_of_slice control.table) (cond b (e ∷ filter seen es) (filter seen es)) ≡ map with_chain (map group_of_entry (cond b (e ∷ filter seen es) (filter seen es)))
-      by_test true passes rest = ap (λ p. p ∷ map (parts_of_slice control.table) (filter seen es)) (one passes) ∙ ap (λ ps. with_chain e.0.group ∷ ps) rest
+      by_test : (b : Bool) → seen e ≡ b → map (parts_of_slice control.props.name) (filter seen es) ≡ map with_chain (map group_of_entry (filter seen es))
+          → map (parts_of_slice control.props.name) (cond b (e ∷ filter seen es) (filter seen es)) ≡ map with_chain (map group_of_entry (cond b (e ∷ filter seen es) (filter seen es)))
+      by_test true passes rest = ap (λ p. p ∷ map (parts_of_slice control.props.name) (filter seen es)) (one passes) ∙ ap (λ ps. with_chain e.0.group ∷ ps) rest
       by_test false fails rest = rest
 
-  pub parts_seen : AreEntries control.slices → (parts : List GroupParts) → parts ≡ groups_among control.table control.buckets control.slices.slots.entries → AreParts A H t false parts
+  pub parts_seen : AreEntries control.slices → (parts : List GroupParts) → parts ≡ groups_among control.props.name control.buckets control.slices.slots.entries → AreParts A H t false parts
   parts_seen entries parts same = record {
     groups = _;
     live = record {

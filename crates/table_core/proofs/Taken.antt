@@ -106,7 +106,7 @@ pub begun_taken : (A : Table) (H : History) (control : Control) (j : Job) (t : â
 begun_taken A H control j t is above = record {
   opened = is.opened;
   fit = is.fit;
-  name = is.name;
+  props = is.props;
   buckets = is.buckets;
   session = is.session;
   last = drawn_last (greatest_time A H) t above;

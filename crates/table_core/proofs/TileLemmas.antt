@@ -103,7 +103,7 @@ asked_apart buckets (asked ∷ slots) g =
     ∙ ap (λ b. (is_first buckets g && (bytes_eq asked.partition g.partition && list_any (λ slot. has_slot g slot) asked.slots)) || b) (asked_apart buckets slots g)
     ∙ and-over_or (is_first buckets g) _ _
 
-pub are_targets : (A : Table) (buckets : ℕ) (slots : List PartitionSlots) (groups : List GroupRef) (targets : List Target) → A.buckets ≡ buckets
+pub are_targets : (A : Table) (buckets : ℕ) (slots : List PartitionSlots) (groups : List GroupRef) (targets : List Target) → A.props.buckets ≡ buckets
     → ((g : GroupRef) → is_among groups g ≡ is_tile_asked buckets slots g) → IsStrictlySortedBy group_cmp groups → targets ≡ map target_of_group groups → AreTargets A slots targets
 are_targets A buckets slots groups targets same has order are = record {
   groups = groups;

@@ -43,13 +43,13 @@ pub finish_decides : (A : Table) (H : History) (control : Control) (t : ℕ) (ch
     → groups ≡ written (writes_in control t) 0 (targets_in control t)
     → Decides A H (Finish t checkpoint) now (record {
       reply = Completed t;
-      op = op.Create (name_of control.table (file.Instant t Delta state.Completed)) (meta_bytes control.table (meta.Delta (record { checkpoint = checkpoint; groups = groups })));
+      op = op.Create (name_of control.props.name (file.Instant t Delta state.Completed)) (meta_bytes control.props.name (meta.Delta (record { checkpoint = checkpoint; groups = groups })));
     })
 finish_decides A H control t checkpoint groups now is same = record {
   answers = refl;
   succeeds = tt;
   draws = tt;
-  op = λ i. op.Create (name_of (is.name i) (file.Instant t Delta state.Completed)) (meta_bytes (is.name i) (meta.Delta (record { checkpoint = checkpoint; groups = all i })));
+  op = λ i. op.Create (name_of ((is.props i).name) (file.Instant t Delta state.Completed)) (meta_bytes ((is.props i).name) (meta.Delta (record { checkpoint = checkpoint; groups = all i })));
 }
   where
     all : groups ≡ written_by A H t

@@ -29,6 +29,7 @@ use Rattle.table_history.specs.declared.step.Reader.TheVariants as reader
 use Rattle.table_history.specs.declared.step.Step.{Step}
 use Rattle.table_history.specs.declared.step.Step.TheVariants.{Enter, Append, Finish, Pin, Unpin, Abandon}
 use Rattle.table_history.specs.declared.view.Part.{Part}
+use Rattle.table_props.specs.PropsTexts.{told_of}
 
 -- ---- what the tables have
 
@@ -80,9 +81,9 @@ pub record IsSlice (A : Table) (H : History) (s : Target) (slice : SliceState) :
 -- The control tables are those of table A after history H.
 pub record IsControl (A : Table) (H : History) (control : Control) : Type 0 where
   pub opened : IsOpened A
-  pub fit : IsBuckets A.buckets
-  pub name : control.table ≡ A.name
-  pub buckets : control.buckets ≡ A.buckets
+  pub fit : IsBuckets A.props.buckets
+  pub props : told_of control.props ≡ A.props
+  pub buckets : control.buckets ≡ A.props.buckets
   pub session : control.session ≡ A.session
   pub last : control.last ≡ greatest_time A H
   pub completed : reverse control.completed.items ≡ completed_instants A H

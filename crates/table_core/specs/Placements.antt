@@ -18,5 +18,5 @@ token control slice = record { session = control.session; attempt = attempt_of s
 abbrev pub placement : Control → Target → SliceState → List ℕ → Decision
 placement control s slice bytes = record {
   reply = Placed slice.version (length_in_use slice);
-  op = op.Append (name_of control.table (Log s.group s.slice slice.version (token control slice))) bytes;
+  op = op.Append (name_of control.props.name (Log s.group s.slice slice.version (token control slice))) bytes;
 }

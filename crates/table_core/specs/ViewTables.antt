@@ -46,7 +46,7 @@ pub record AreEntries (slices : Rooms Target SliceState) : Type 0 where
 abbrev pub ArePartsIn : Control → Option ℕ → Bool → List GroupParts → Type 0
 ArePartsIn control None bases_only parts = parts ≡ []
 ArePartsIn control (Some t) true parts = parts ≡ []
-ArePartsIn control (Some t) false parts = (parts ≡ groups_among control.table control.buckets control.slices.slots.entries) × AreEntries control.slices
+ArePartsIn control (Some t) false parts = (parts ≡ groups_among control.props.name control.buckets control.slices.slots.entries) × AreEntries control.slices
 
 abbrev pub instant_in : Control → Option ℕ → Option ℕ
 instant_in control None = greatest (reverse control.completed.items)

@@ -3,20 +3,23 @@ ghost use Rattle.std.specs.Prelude.{[]};
 ghost use Rattle.key_index.specs.Tiling.{IsBuckets};
 ghost use Rattle.table_core.specs.ControlTables.{IsControl};
 ghost use Rattle.table_history.specs.Tables.{fresh};
+ghost use Rattle.table_props.specs.PropsTexts.{told_of};
 
 use crate::rooms::Rooms;
 use crate::slice_logs::SliceLogs;
 use crate::written::TargetNumber;
-use hudi_base::{InstantTime, Name, Sequence, Target};
+use hudi_base::{InstantTime, Sequence, Target};
 use key_index::Buckets;
 use std::alloc::Global;
 use table_history::Part;
+use table_props::Props;
 
 /// What the next steps of a table depend on. Each step costs the logarithm of the number of instants, slices and pins,
 /// and the size of its reply.
 #[derive(Drop)]
 pub struct Control {
-    pub(crate) table: Name,
+    pub(crate) props: Props,
+    // How its partitions are tiled at first.
     pub(crate) buckets: Buckets,
     pub(crate) session: u64,
     // The greatest time that the timeline has or had.
@@ -39,15 +42,15 @@ pub struct Control {
 }
 
 impl Control {
-    /// The control of a new table of this name, whose partitions begin with so many groups, from 1 to 1,024. It takes
-    /// no memory.
-    pub fn fresh(alloc: Global, table: Name, buckets: u16) -> Control
-        requires { IsBuckets buckets }
-        ensures { IsControl (fresh table buckets) [] result }
+    /// The control of a new table with these properties, whose partitions begin with 1 to 1,024 groups. It takes no
+    /// memory.
+    pub fn fresh(alloc: Global, props: Props) -> Control
+        requires { IsBuckets props.buckets }
+        ensures { IsControl (fresh (told_of props)) [] result }
     {
         Control {
-            table,
-            buckets: Buckets::new(buckets),
+            buckets: Buckets::new(props.buckets),
+            props,
             session: 0,
             last: InstantTime::FIRST,
             completed: Vec::new(alloc),

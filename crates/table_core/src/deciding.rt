@@ -89,7 +89,7 @@ impl Control {
     {
         match InstantTime::next_after(self.last, now) {
             Ok(t) => Ok(Decision {
-                op: creation(alloc, &self.table, t, State::Requested, &Meta::Empty)?,
+                op: creation(alloc, &self.props.name, t, State::Requested, &Meta::Empty)?,
                 reply: Reply::Began(t),
             }),
             Err(_) => Ok(without_operation(Reply::TimeOver)),
@@ -108,7 +108,7 @@ impl Control {
         let targets = targets_of_slots(alloc, &self.buckets, slots)?;
         let claims = Meta::Claims(copy_targets(alloc, targets.as_slice())?);
         Ok(Decision {
-            op: creation(alloc, &self.table, t, State::Inflight, &claims)?,
+            op: creation(alloc, &self.props.name, t, State::Inflight, &claims)?,
             reply: Reply::Entered(targets),
         })
     }
@@ -127,7 +127,7 @@ impl Control {
             session: self.session,
             attempt: logs.attempt(self.attempts),
         };
-        let name = log_name(alloc, &self.table, slice, logs.version(), token)?;
+        let name = log_name(alloc, &self.props.name, slice, logs.version(), token)?;
         Ok(Decision {
             reply: Reply::Placed(logs.version(), logs.length_in_use()),
             op: Op::Append(name, bytes.copy(alloc)?),
@@ -183,7 +183,7 @@ impl Control {
         });
         Ok(Decision {
             reply: Reply::Completed(t),
-            op: creation(alloc, &self.table, t, State::Completed, &meta)?,
+            op: creation(alloc, &self.props.name, t, State::Completed, &meta)?,
         })
     }
 

@@ -119,7 +119,7 @@ pub(crate) fn targets_of_slots(
     buckets: &Buckets,
     slots: &[PartitionSlots],
 ) -> Result<Sequence<Target>, AllocError>
-    ensures { IfOk result (λ targets. (A : Table) → A.buckets ≡ buckets.now → AreTargets A slots.now targets) }
+    ensures { IfOk result (λ targets. (A : Table) → A.props.buckets ≡ buckets.now → AreTargets A slots.now targets) }
 {
     let groups = groups_of(alloc, buckets, slots)?;
     targets_of(alloc, &groups)

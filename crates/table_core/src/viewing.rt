@@ -20,7 +20,7 @@ impl Control {
         groups: &mut Sequence<GroupParts>,
     ) -> Result<(), AllocError>
         ensures { OnOk result (groups.new
-            ≡ groups.old ++ groups_among self.now.table self.now.buckets ((slice.now, logs.now) ∷ [])) }
+            ≡ groups.old ++ groups_among self.now.props.name self.now.buckets ((slice.now, logs.now) ∷ [])) }
     {
         let is_current = slice.slice == slice.group.born;
         if logs.logs().is_empty() || !is_current || !self.buckets.has(&slice.group) {
@@ -28,14 +28,14 @@ impl Control {
         }
         groups.push(GroupParts {
             group: slice.group.copy(alloc)?,
-            parts: parts_of(alloc, &self.table, slice, logs.logs())?,
+            parts: parts_of(alloc, &self.props.name, slice, logs.logs())?,
         })
     }
 
     // The groups of the tiles that have files.
     fn groups(&self, alloc: Global) -> Result<Sequence<GroupParts>, AllocError>
         ensures groups { IfOk result (λ groups.
-            groups ≡ groups_among self.now.table self.now.buckets self.now.slices.slots.entries) }
+            groups ≡ groups_among self.now.props.name self.now.buckets self.now.slices.slots.entries) }
         ensures entries { AreEntries self.now.slices }
     {
         let mut groups = Sequence::new(alloc);

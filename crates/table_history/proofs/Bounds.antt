@@ -17,6 +17,7 @@ use Rattle.table_history.specs.declared.reply.Reply.{Reply}
 use Rattle.table_history.specs.declared.reply.Reply.TheVariants as reply
 use Rattle.table_history.specs.declared.step.Step.{Step}
 use Rattle.table_history.specs.declared.step.Step.TheVariants.{Begin, Enter, Append, Finish, Pin, Unpin, Abandon}
+use Rattle.table_props.specs.PropsTexts.{Told as Properties}
 
 abbrev pub owner_in : Option Instant → Option Job
 owner_in o = option_and_then (λ i. i.owner) o
@@ -106,8 +107,8 @@ pub pin_bound : (work : Work) (A : Table) (H : History) → IsLegal work A H →
 pin_bound work A [] legal p live now = absurd (none_owns now)
 pin_bound work A (e ∷ H) legal p live now = one_pin A H p e.job e.step e.reply live legal.1.answers (pin_bound work A H legal.0 p live) now
 
-pub fresh_opened : (name : List ℕ) (buckets : ℕ) → IsOpened (fresh name buckets)
-fresh_opened name buckets t i is = absurd (none_owns is)
+pub fresh_opened : (props : Properties) → IsOpened (fresh props)
+fresh_opened props t i is = absurd (none_owns is)
 
 abbrev unowned : (ℕ × Instant) → (ℕ × Instant)
 unowned known = (known.0, record known.1 { owner = None })

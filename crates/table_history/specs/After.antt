@@ -30,8 +30,7 @@ instants_at A H (t ∷ more) = with (instant_of A H t) (instants_at A H more)
 
 abbrev pub after_history : Table → History → Table
 after_history A H = record {
-  name = A.name;
-  buckets = A.buckets;
+  props = A.props;
   instants = instants_at A H (times_of A H);
   completed = completions A H;
   earliest = A.earliest;

@@ -93,7 +93,7 @@ abbrev pub log_file : Table → Target → ℕ → ℕ → FileName
 log_file A s version attempt = Log s.group s.slice version (record { session = A.session; attempt = attempt })
 
 abbrev pub log_name : Table → Target → ℕ → ℕ → List ℕ
-log_name A s version attempt = name_of A.name (log_file A s version attempt)
+log_name A s version attempt = name_of A.props.name (log_file A s version attempt)
 
 -- ---- the files of a slice
 

@@ -30,7 +30,7 @@ use Rattle.table_history.specs.declared.view.Part.{Part}
 
 -- a file of the timeline is made, with this metadata
 abbrev pub makes : Table → ℕ → State → Meta → Op
-makes A t s said = op.Create (name_of A.name (Instant t Delta s)) (meta_bytes A.name said)
+makes A t s said = op.Create (name_of A.props.name (Instant t Delta s)) (meta_bytes A.props.name said)
 
 -- a block is added to the log in use of a slice
 abbrev pub appends : Table → History → List ℕ → Option Target → Op

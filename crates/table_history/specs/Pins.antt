@@ -52,7 +52,7 @@ completed_up_to A H t = reverse (filter (λ u. nat_le u t) (completed_instants A
 
 -- a log as a part of a view
 abbrev pub part_of : Table → Target → LogFile → Part
-part_of A s log = record { name = name_of A.name (Log s.group s.slice log.version (record { session = log.session; attempt = log.attempt })); length = log.length; base = false }
+part_of A s log = record { name = name_of A.props.name (Log s.group s.slice log.version (record { session = log.session; attempt = log.attempt })); length = log.length; base = false }
 
 -- The chain of a group at a time: its base, and the logs of the slices from the base's time on, by slice and version. For
 -- now there are no bases, and a group has one slice.

@@ -5,6 +5,7 @@ use Rattle.hudi_base.specs.declared.file_group.Target.{Target}
 use Rattle.file_names.specs.declared.file_name.Action.{Action}
 use Rattle.file_names.specs.declared.file_name.FileName.{FileName}
 use Rattle.file_names.specs.declared.file_name.State.{State}
+use Rattle.table_props.specs.PropsTexts.{Told as Properties}
 use Rattle.table_history.specs.declared.job.Job.{Job}
 
 -- a block of an instant: the number of its target, how many writes it has, and its bytes
@@ -33,12 +34,10 @@ pub record KnownFile : Type 0 where
   pub name : List ℕ
   pub bytes : List ℕ
 
--- A table: its name, how many groups each of its partitions begins with, the instants by time, how many of them are
--- completed, the earliest instant that queries may read, the files, the session, and the greatest time in the names of
--- the timeline.
+-- A table: its properties, the instants by time, how many of them are completed, the earliest instant that queries may
+-- read, the files, the session, and the greatest time in the names of the timeline.
 pub record Table : Type 0 where
-  pub name : List ℕ
-  pub buckets : ℕ
+  pub props : Properties
   pub instants : List (ℕ × Instant)
   pub completed : ℕ
   pub earliest : ℕ
@@ -47,8 +46,8 @@ pub record Table : Type 0 where
   pub last : ℕ
 
 -- a table without instants
-abbrev pub fresh : List ℕ → ℕ → Table
-fresh name buckets = record { name = name; buckets = buckets; instants = []; completed = 0; earliest = first_time; files = []; session = 0; last = first_time }
+abbrev pub fresh : Properties → Table
+fresh props = record { props = props; instants = []; completed = 0; earliest = first_time; files = []; session = 0; last = first_time }
 
 abbrev pub instant_at : List (ℕ × Instant) → ℕ → Option Instant
 instant_at [] t = None

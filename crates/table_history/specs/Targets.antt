@@ -29,7 +29,7 @@ group_cmp a b =
 -- The tiles of a partition: the groups that share its slots. For now no group gives way to others, so they are the
 -- first ones.
 abbrev pub tiles_of : Table → List ℕ → List GroupRef
-tiles_of A partition = first_groups partition A.buckets
+tiles_of A partition = first_groups partition A.props.buckets
 
 -- a live group is one of its partition's tiles
 abbrev pub is_live : Table → GroupRef → Bool

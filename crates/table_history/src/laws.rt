@@ -13,6 +13,7 @@ ghost use Rattle.table_history.specs.Times.{greatest_time};
 ghost use Rattle.table_history.specs.declared.entry.Entry.{Entry};
 ghost use Rattle.table_history.specs.declared.job.Job.{Job};
 ghost use Rattle.table_history.specs.declared.step.Step.{Step};
+ghost use Rattle.table_props.specs.PropsTexts.{Told as Properties};
 
 use crate::Work;
 
@@ -27,7 +28,7 @@ pub fn entries_leave_others()
 pub fn owned_instants_were_drawn()
     ensures drawn { (A : Table) (H : History) → IsOpened A → (t : ℕ) (j : Job) → owner_of A H t ≡ Some j → t ≤ greatest_time A H }
     ensures undrawn { (A : Table) (H : History) → IsOpened A → (t : ℕ) → greatest_time A H < t → instant_of A H t ≡ None }
-    ensures fresh { (name : List ℕ) (buckets : ℕ) → IsOpened (fresh name buckets) }
+    ensures fresh { (props : Properties) → IsOpened (fresh props) }
     ensures reopened { (A : Table) (files : List KnownFile) → IsOpened (reopened A files) }
 {}
 

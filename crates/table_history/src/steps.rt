@@ -3,11 +3,15 @@ ghost use Rattle.std.specs.Prelude.{◌≡◌, List};
 ghost use Rattle.table_history.specs.JobLaw.{Allows, phase, entries_of, with_entry, PlacedEntry, GoesOn, EndsWith, IsReplyOf};
 ghost use Rattle.table_history.specs.declared.entry.Entry.{Entry};
 ghost use Rattle.table_history.specs.declared.job.Job.{Job};
+ghost use Rattle.table_props.specs.PropsTexts.{Told as Properties};
 
 use crate::{Reply, Step, Work};
 
 /// A table that answers the steps of one job at a time.
 pub trait Steps: Work {
+    /// The properties of the table.
+    ghost props: { Self → Properties };
+
     /// The entries that were seen, the last one first.
     ghost seen: { Self → List Entry };
 
@@ -34,4 +38,7 @@ pub trait Steps: Work {
     ghost later_itself: { (steps : Self) → later steps steps };
 
     ghost later_on: { (first second third : Self) → later first second → later second third → later first third };
+
+    /// No step changes the properties.
+    ghost later_props: { (first second : Self) → later first second → props second ≡ props first };
 }

@@ -105,25 +105,25 @@ module _ (A : Table) (H K : History) (image : FileMap) (s : Target) (kept : Kept
   grown chain is = record { logs = logs; alone = alone }
     where
       logs : (slice version : ℕ) (token : Token) → IsLog s.group slice version token
-          → get (insert chain (place_in_use A H s) (content image (name_in_use A H s) ++ more)) (place slice version token) ≡ get (with_more A H image s more) (name_of A.name (file.Log s.group slice version token))
+          → get (insert chain (place_in_use A H s) (content image (name_in_use A H s) ++ more)) (place slice version token) ≡ get (with_more A H image s more) (name_of A.props.name (file.Log s.group slice version token))
       logs slice version token named = by_place (one_name (place slice version token) (place_in_use A H s))
         where
           by_place : (place slice version token ≡ place_in_use A H s) ⊎ (place slice version token ≡ place_in_use A H s → ⊥)
-              → get (insert chain (place_in_use A H s) (content image (name_in_use A H s) ++ more)) (place slice version token) ≡ get (with_more A H image s more) (name_of A.name (file.Log s.group slice version token))
+              → get (insert chain (place_in_use A H s) (content image (name_in_use A H s) ++ more)) (place slice version token) ≡ get (with_more A H image s more) (name_of A.props.name (file.Log s.group slice version token))
           by_place (inl same) =
               ap (get (insert chain (place_in_use A H s) (content image (name_in_use A H s) ++ more))) same
               ∙ get_here chain (place_in_use A H s) (content image (name_in_use A H s) ++ more)
               ∙ sym (get_here image (name_in_use A H s) (content image (name_in_use A H s) ++ more))
-              ∙ ap (λ (of : FileName). get (with_more A H image s more) (name_of A.name of)) (sym (one_place slice version token same))
+              ∙ ap (λ (of : FileName). get (with_more A H image s more) (name_of A.props.name of)) (sym (one_place slice version token same))
           by_place (inr apart) =
               get_apart chain (place_in_use A H s) (content image (name_in_use A H s) ++ more) (place slice version token) apart
               ∙ is.logs slice version token named
-              ∙ sym (get_apart image (name_in_use A H s) (content image (name_in_use A H s) ++ more) (name_of A.name (file.Log s.group slice version token)) (λ same. apart (place_of same)))
+              ∙ sym (get_apart image (name_in_use A H s) (content image (name_in_use A H s) ++ more) (name_of A.props.name (file.Log s.group slice version token)) (λ same. apart (place_of same)))
             where
-              place_of : name_of A.name (file.Log s.group slice version token) ≡ name_in_use A H s → place slice version token ≡ place_in_use A H s
+              place_of : name_of A.props.name (file.Log s.group slice version token) ≡ name_in_use A H s → place slice version token ≡ place_in_use A H s
               place_of same =
                   let one : file.Log s.group slice version token ≡ file.Log s.group s.slice (version_in_use A H s) (token_in_use A H s) =
-                  name_of_injective A.name (file.Log s.group slice version token) (log_in_use A H s) named to.named same in
+                  name_of_injective A.props.name (file.Log s.group slice version token) (log_in_use A H s) named to.named same in
                   let sl : slice ≡ s.slice = cc in
                   let v : version ≡ version_in_use A H s = cc in
                   let k : token ≡ token_in_use A H s = cc in
@@ -156,14 +156,14 @@ module _ (A : Table) (H K : History) (image : FileMap) (s : Target) (kept : Kept
   pub chain_apart : (group : GroupRef) (chain : FileMap) → (s.group ≡ group → ⊥) → IsChain image (after_history A H) group chain → IsChain (with_more A H image s more) (after_history A K) group chain
   chain_apart group chain apart is = record {
     logs = λ slice version token named. is.logs slice version token named
-        ∙ sym (get_apart image (name_in_use A H s) (content image (name_in_use A H s) ++ more) (name_of A.name (file.Log group slice version token)) (other slice version token named));
+        ∙ sym (get_apart image (name_in_use A H s) (content image (name_in_use A H s) ++ more) (name_of A.props.name (file.Log group slice version token)) (other slice version token named));
     alone = is.alone;
   }
     where
-      other : (slice version : ℕ) (token : Token) → IsLog group slice version token → name_of A.name (file.Log group slice version token) ≡ name_in_use A H s → ⊥
+      other : (slice version : ℕ) (token : Token) → IsLog group slice version token → name_of A.props.name (file.Log group slice version token) ≡ name_in_use A H s → ⊥
       other slice version token named same =
           let one : file.Log group slice version token ≡ file.Log s.group s.slice (version_in_use A H s) (token_in_use A H s) =
-          name_of_injective A.name (file.Log group slice version token) (log_in_use A H s) named to.named same in
+          name_of_injective A.props.name (file.Log group slice version token) (log_in_use A H s) named to.named same in
           let g : s.group ≡ group = cc in
           apart g
 

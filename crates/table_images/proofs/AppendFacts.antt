@@ -40,7 +40,7 @@ logs_then A H s block =
 -- the block was placed
 pub record IsPlacing (A : Table) (H K : History) (s : Target) (bytes : List ℕ) : Type 0 where
   pub others : LeavesSlices A H K s
-  pub files : files_of A K ≡ with_bytes (log_in_use A H s) (name_of A.name (log_in_use A H s)) bytes (files_of A H)
+  pub files : files_of A K ≡ with_bytes (log_in_use A H s) (name_of A.props.name (log_in_use A H s)) bytes (files_of A H)
   pub used : is_unused A K s ≡ false
   pub same : version_in_use A K s ≡ version_in_use A H s
   pub here : log_in_use A K s ≡ log_in_use A H s
@@ -103,7 +103,7 @@ module _ (A : Table) (H : History) (j : Job) (t target writes : ℕ) (bytes : Li
   pub placing : (version at : ℕ) → version ≡ version_in_use A H s → IsPlacing A H (entry j (Append t target writes bytes) (Placed version at) ∷ H) s bytes
   placing version at first = record {
     others = leaves (Placed version at);
-    files = rw is (ap (λ v. with_bytes (log_file A s v (attempt_in_use A H s)) (name_of A.name (log_file A s v (attempt_in_use A H s))) bytes (files_of A H)) first);
+    files = rw is (ap (λ v. with_bytes (log_file A s v (attempt_in_use A H s)) (name_of A.props.name (log_file A s v (attempt_in_use A H s))) bytes (files_of A H)) first);
     used = rw here refl;
     same = ap (λ n. 1 + greatest_version A.files s + n) (add_none (failures A H s));
     here = in_use;

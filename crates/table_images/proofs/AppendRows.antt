@@ -39,6 +39,7 @@ use Rattle.table_images.proofs.Lines.{IsChanged, change, at_after, greatest_rise
 use Rattle.table_images.proofs.OpenLogCells.{logs_placed, logs_left, logs_unchanged}
 use Rattle.table_images.proofs.VersionCells.{versions_placed, versions_left, versions_unchanged}
 use Rattle.table_images.proofs.OwnedCells.{owned_still, owned_more, owned-placed}
+use Rattle.table_images.proofs.PropertiesCells.{properties_still, properties_apart}
 use Rattle.table_images.proofs.Rows.{completions_rise}
 use Rattle.table_images.proofs.SameLogs.{entry}
 use Rattle.table_images.proofs.Texts.{AddsUpTo, adds_whole, adds_prefix, blocks_of_log, log_of_blocks, fit_more}
@@ -128,6 +129,7 @@ pub row_placed : (A : Table) (H : History) (image : FileMap) (j : Job) (t target
     → Kept A (with_more A H image appending.s (block_bytes block)) (entry j (Append t target writes (block_bytes block)) (reply.Placed version at) ∷ H)
 unfolding OwnedInstants
 row_placed A H image j t target writes version at block appending fits write first named few kept = record {
+  properties = properties_still A H K image new (properties_apart A H image s bytes named) kept.properties;
   timeline = timeline_still A H K image new stages (λ u action st time. timeline_apart A H image s bytes named u action st time) kept;
   whole = whole_more A H K image s kept to bytes (to.blocks ++ block ∷ [], log);
   tiles = kept.tiles;
@@ -218,6 +220,7 @@ module _ (A : Table) (H : History) (image : FileMap) (j : Job) (t target writes 
   pub row_nothing : Kept A image (entry j (Append t target writes (block_bytes block)) reply.Fault ∷ H)
   unfolding ChainsHold
   row_nothing = record {
+    properties = properties_still A H K image image refl kept.properties;
     timeline = timeline_still A H K image image stages (λ u action st time. refl) kept;
     whole = whole_unchanged A H K image appending.s kept to failing;
     tiles = kept.tiles;
@@ -252,6 +255,7 @@ module _ (A : Table) (H : History) (image : FileMap) (j : Job) (t target writes 
 
   pub row_prefix : (n : ℕ) → Kept A (with_more A H image appending.s (take n (block_bytes block))) (entry j (Append t target writes (block_bytes block)) reply.Fault ∷ H)
   row_prefix n = record {
+    properties = properties_still A H K image new (properties_apart A H image appending.s more named) kept.properties;
     timeline = timeline_still A H K image new stages (λ u action st time. timeline_apart A H image appending.s more named u action st time) kept;
     whole = whole_more A H K image appending.s kept to more (to.blocks ++ adds.new, log);
     tiles = kept.tiles;

@@ -14,7 +14,7 @@ use Rattle.table_images.proofs.Lines.{some_same}
 use Rattle.table_history.specs.Targets.{is_target}
 
 abbrev pub name_in_use : Table → History → Target → List ℕ
-name_in_use A H s = name_of A.name (log_in_use A H s)
+name_in_use A H s = name_of A.props.name (log_in_use A H s)
 
 -- the files after so many bytes more in the log in use
 abbrev pub with_more : Table → History → FileMap → Target → List ℕ → FileMap
@@ -22,17 +22,17 @@ with_more A H image s more = insert image (name_in_use A H s) (content image (na
 
 -- which bytes a log has then: the one in use, or another
 pub record IsAnother (A : Table) (H : History) (image : FileMap) (of : FileName) (s : Target) (more bytes : List ℕ) : Type 0 where
-  pub by : ((of ≡ log_in_use A H s) × (bytes ≡ content image (name_in_use A H s) ++ more)) ⊎ ((name_of A.name of ≡ name_in_use A H s → ⊥) × (get image (name_of A.name of) ≡ Some bytes))
+  pub by : ((of ≡ log_in_use A H s) × (bytes ≡ content image (name_in_use A H s) ++ more)) ⊎ ((name_of A.props.name of ≡ name_in_use A H s → ⊥) × (get image (name_of A.props.name of) ≡ Some bytes))
 
 pub another : (A : Table) (H : History) (image : FileMap) (of : FileName) (s : Target) (more bytes : List ℕ) → IsNamed (log_in_use A H s) → IsNamed of
-    → get (with_more A H image s more) (name_of A.name of) ≡ Some bytes → IsAnother A H image of s more bytes
+    → get (with_more A H image s more) (name_of A.props.name of) ≡ Some bytes → IsAnother A H image of s more bytes
 another A H image of s more bytes named also there = record { by = by_file (one_file A of (log_in_use A H s) also named) }
   where
-    by_file : (of ≡ log_in_use A H s) ⊎ (name_of A.name of ≡ name_in_use A H s → ⊥)
-        → ((of ≡ log_in_use A H s) × (bytes ≡ content image (name_in_use A H s) ++ more)) ⊎ ((name_of A.name of ≡ name_in_use A H s → ⊥) × (get image (name_of A.name of) ≡ Some bytes))
+    by_file : (of ≡ log_in_use A H s) ⊎ (name_of A.props.name of ≡ name_in_use A H s → ⊥)
+        → ((of ≡ log_in_use A H s) × (bytes ≡ content image (name_in_use A H s) ++ more)) ⊎ ((name_of A.props.name of ≡ name_in_use A H s → ⊥) × (get image (name_of A.props.name of) ≡ Some bytes))
     by_file (inl same) =
-        inl (same, some_same (sym there ∙ ap (λ (f : FileName). get (with_more A H image s more) (name_of A.name f)) same ∙ get_here image (name_in_use A H s) (content image (name_in_use A H s) ++ more)))
-    by_file (inr apart) = inr (apart, sym (get_apart image (name_in_use A H s) (content image (name_in_use A H s) ++ more) (name_of A.name of) apart) ∙ there)
+        inl (same, some_same (sym there ∙ ap (λ (f : FileName). get (with_more A H image s more) (name_of A.props.name f)) same ∙ get_here image (name_in_use A H s) (content image (name_in_use A H s) ++ more)))
+    by_file (inr apart) = inr (apart, sym (get_apart image (name_in_use A H s) (content image (name_in_use A H s) ++ more) (name_of A.props.name of) apart) ∙ there)
 
 -- two slices are one, or they are not
 pub slice_cases : (s r : Target) → (s ≡ r) ⊎ (s ≡ r → ⊥)

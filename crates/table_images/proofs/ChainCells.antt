@@ -61,7 +61,7 @@ chain_bounded A H image group chain kept is = all_blocks (IsUpTo (greatest_in (a
     bounded : (k v : List ℕ) → get chain k ≡ Some v → AllByRecursion (IsUpTo (greatest_in (after_history A H).instants)) (blocks_in v)
     bounded k v found =
         let at = is.alone k v found in
-        let there : get image (name_of A.name (file.Log group at.slice at.version at.token)) ≡ Some v = sym (is.logs at.slice at.version at.token at.named) ∙ ap (get chain) (sym at.is) ∙ found in
+        let there : get image (name_of A.props.name (file.Log group at.slice at.version at.token)) ≡ Some v = sym (is.logs at.slice at.version at.token at.named) ∙ ap (get chain) (sym at.is) ∙ found in
         (kept.numbers.logs group at.slice at.version at.token v (record { named = at.named; there = there })).blocks
 
 -- ---- a step that does no more than end what an instant may still do

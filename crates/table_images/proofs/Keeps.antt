@@ -110,7 +110,7 @@ module _ (work : Work) (A : Table) (opened : IsOpened A) (last : greatest_in A.i
       (subst (After image H j (Finish t checkpoint) (reply.Completed t)) (sym is)
       (row_completed A H image j t checkpoint own_t.i own_t.is own_t.owner sound own_t.what.0 fits (subst (IsPossible image) is possible) kept))
   finishes image H j t checkpoint reply.Fault did kept legal may answers allowed fits is possible =
-      quiet image H j (Finish t checkpoint) reply.Fault did (no_creation (timeline_name A t Delta Completed) (meta_bytes A.name (meta.Delta (record { checkpoint = checkpoint; groups = written_by A H t }))) did is)
+      quiet image H j (Finish t checkpoint) reply.Fault did (no_creation (timeline_name A t Delta Completed) (meta_bytes A.props.name (meta.Delta (record { checkpoint = checkpoint; groups = written_by A H t }))) did is)
       (row_quiet A H image j (Finish t checkpoint) reply.Fault tt (line_less A H _ t failed no_more-failed (λ u. refl)) kept)
   finishes image H j t checkpoint (reply.Damaged name cause) did kept legal may answers allowed fits is possible =
       quiet image H j (Finish t checkpoint) (reply.Damaged name cause) did is

@@ -21,6 +21,7 @@ pub mod Opened
 pub mod OwnedCells
 pub mod Phases
 pub mod Pieces
+pub mod PropertiesCells
 pub mod Reopened
 pub mod Rows
 pub mod SameLogs

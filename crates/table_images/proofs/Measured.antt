@@ -49,7 +49,7 @@ measured_left : (A : Table) (H : History) (j : Job) (s : Step) (r : Reply) (q : 
     → IsMeasured A (entry j s r ∷ H) q
 measured_left A H j s r q other lengths measured =
     measured_as A H (entry j s r ∷ H) q (same.version q) lengths (same.unused q)
-    (λ used. ap (λ (fs : List KnownFile). length (bytes_in fs (name_in_use A (entry j s r ∷ H) q))) same.files ∙ ap (λ of. length (bytes_in (files_of A H) (name_of A.name of))) (same.in_use q)) measured
+    (λ used. ap (λ (fs : List KnownFile). length (bytes_in fs (name_in_use A (entry j s r ∷ H) q))) same.files ∙ ap (λ of. length (bytes_in (files_of A H) (name_of A.props.name of))) (same.in_use q)) measured
   where
     same : SameLogs A H (entry j s r ∷ H)
     same = same_logs A H j s r other
@@ -81,7 +81,7 @@ module _ (A : Table) (H K : History) (image : FileMap) (s : Target) (bytes : Lis
     used = λ used.
         ap (known_length A K s) placed.same ∙ placed.longer (version_in_use A H s) ∙ ap (λ b. known_length A H s (version_in_use A H s) + cond b (length bytes) 0) (that (version_in_use A H s))
         ∙ sum (before (is_unused A H s) refl)
-        ∙ sym (ap (λ of. length (bytes_in (files_of A K) (name_of A.name of))) placed.here ∙ ap (λ (fs : List KnownFile). length (bytes_in fs (name_in_use A H s))) placed.files
+        ∙ sym (ap (λ of. length (bytes_in (files_of A K) (name_of A.props.name of))) placed.here ∙ ap (λ (fs : List KnownFile). length (bytes_in fs (name_in_use A H s))) placed.files
         ∙ ap length (known_here (log_in_use A H s) (name_in_use A H s) bytes (files_of A H)));
   }
     where
@@ -95,7 +95,7 @@ module _ (A : Table) (H K : History) (image : FileMap) (s : Target) (bytes : Lis
   measured_other : (q : Target) → (s ≡ q → ⊥) → IsMeasured A K q
   measured_other q apart =
       measured_as A H K q (placed.others.version q apart) (placed.others.length q apart) (placed.others.unused q apart)
-      (λ used. ap (λ of. length (bytes_in (files_of A K) (name_of A.name of))) (placed.others.in_use q apart used)
+      (λ used. ap (λ of. length (bytes_in (files_of A K) (name_of A.props.name of))) (placed.others.in_use q apart used)
       ∙ ap (λ (fs : List KnownFile). length (bytes_in fs (name_in_use A H q))) placed.files
       ∙ ap length (known_apart (log_in_use A H s) (name_in_use A H s) bytes (files_of A H) (name_in_use A H q) (slices_apart A H K image s kept to bytes q apart used)))
       (measured q)
@@ -122,7 +122,7 @@ measured_failed A H K s failing measured q = by_slice (slice_cases s q)
     by_slice (inl same) = subst (IsMeasured A K) same here
     by_slice (inr apart) =
         measured_as A H K q (failing.others.version q apart) (failing.others.length q apart) (failing.others.unused q apart)
-        (λ used. ap (λ (fs : List KnownFile). length (bytes_in fs (name_in_use A K q))) failing.files ∙ ap (λ of. length (bytes_in (files_of A H) (name_of A.name of))) (failing.others.in_use q apart used))
+        (λ used. ap (λ (fs : List KnownFile). length (bytes_in fs (name_in_use A K q))) failing.files ∙ ap (λ of. length (bytes_in (files_of A H) (name_of A.props.name of))) (failing.others.in_use q apart used))
         (measured q)
 
 named_of : (A : Table) (H : History) (s : Target) (o : Option Target) → o ≡ Some s → IfSome o (λ s. IsNamed (log_in_use A H s)) → IsNamed (log_in_use A H s)

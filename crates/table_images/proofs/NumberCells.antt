@@ -99,7 +99,7 @@ module _ (A : Table) (H K : History) (image : FileMap) (s : Target) (kept : Kept
   bounded_logs leaves le current blocks group slice version token bytes has = by_file (another A H image (file.Log group slice version token) s more bytes to.named has.named has.there).by
     where
       by_file : ((file.Log group slice version token ≡ log_in_use A H s) × (bytes ≡ content image (name_in_use A H s) ++ more))
-          ⊎ ((name_of A.name (file.Log group slice version token) ≡ name_in_use A H s → ⊥) × (get image (name_of A.name (file.Log group slice version token)) ≡ Some bytes))
+          ⊎ ((name_of A.props.name (file.Log group slice version token) ≡ name_in_use A H s → ⊥) × (get image (name_of A.props.name (file.Log group slice version token)) ≡ Some bytes))
           → IsBoundedLog (after_history A K) (attempts A K) group slice token bytes
       by_file (inl here) =
           let one : file.Log group slice version token ≡ file.Log s.group s.slice (version_in_use A H s) (record { session = A.session; attempt = attempt_in_use A H s }) = here.0 in
@@ -120,7 +120,7 @@ module _ (A : Table) (H K : History) (image : FileMap) (s : Target) (kept : Kept
   bounded_bases leaves le group token t bytes has = by_file (another A H image (file.Base group token t) s more bytes to.named has.named has.there).by
     where
       by_file : ((file.Base group token t ≡ log_in_use A H s) × (bytes ≡ content image (name_in_use A H s) ++ more))
-          ⊎ ((name_of A.name (file.Base group token t) ≡ name_in_use A H s → ⊥) × (get image (name_of A.name (file.Base group token t)) ≡ Some bytes))
+          ⊎ ((name_of A.props.name (file.Base group token t) ≡ name_in_use A H s → ⊥) × (get image (name_of A.props.name (file.Base group token t)) ≡ Some bytes))
           → IsBoundedBase (after_history A K) (attempts A K) token t
       by_file (inl here) = absurd (base_no_log group token t s.group s.slice (version_in_use A H s) (record { session = A.session; attempt = attempt_in_use A H s }) here.0)
       by_file (inr other) = base_more A H K token t leaves.tries le (kept.numbers.bases group token t bytes (record { named = has.named; there = other.1 }))

@@ -16,16 +16,16 @@ use Rattle.table_images.specs.Chains.{Chain, IsChain}
 use Rattle.table_images.specs.Frames.{name_of_operation}
 use Rattle.table_images.proofs.Frame.{elsewhere}
 
-pub other_groups : (A : Table) (image : FileMap) (operation : Operation) (of : FileName) (group : GroupRef) (chain : Chain) → IsNamed of → name_of_operation operation ≡ name_of A.name of
+pub other_groups : (A : Table) (image : FileMap) (operation : Operation) (of : FileName) (group : GroupRef) (chain : Chain) → IsNamed of → name_of_operation operation ≡ name_of A.props.name of
     → (group_of_file of ≡ Some group → ⊥) → IsChain image A group chain → IsChain (changed image operation) A group chain
 other_groups A image operation of group chain named about apart is = record {
   logs = λ slice version token log. is.logs slice version token log
-      ∙ sym (elsewhere image operation (name_of A.name (file.Log group slice version token)) (λ same. apart (group_of slice version token log (same ∙ about))));
+      ∙ sym (elsewhere image operation (name_of A.props.name (file.Log group slice version token)) (λ same. apart (group_of slice version token log (same ∙ about))));
   alone = is.alone;
 }
   where
-    group_of : (slice version : ℕ) (token : Token) → IsLog group slice version token → name_of A.name (file.Log group slice version token) ≡ name_of A.name of → group_of_file of ≡ Some group
-    group_of slice version token log same = sym (ap group_of_file (name_of_injective A.name (file.Log group slice version token) of log named same))
+    group_of : (slice version : ℕ) (token : Token) → IsLog group slice version token → name_of A.props.name (file.Log group slice version token) ≡ name_of A.props.name of → group_of_file of ≡ Some group
+    group_of slice version token log same = sym (ap group_of_file (name_of_injective A.props.name (file.Log group slice version token) of log named same))
 
 pub one_chain : (image : FileMap) (A : Table) (group : GroupRef) (chain other : Chain) → IsChain image A group chain → IsChain image A group other → chain ≡ other
 one_chain image A group chain other is also = same_map nat_list_cmp_total exact_bytes chain other (λ key. by_found key (get chain key) (get other key) refl refl)

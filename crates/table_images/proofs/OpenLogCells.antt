@@ -26,12 +26,12 @@ pub logs_still : (A : Table) (H K : History) (image new : FileMap) → LeavesLog
 unfolding OpenLogs
 logs_still A H K image new leaves kept s used =
     let log = kept.logs s (sym (leaves.logs.unused s) ∙ used) in
-    let name = ap (name_of A.name) (leaves.logs.in_use s) in
+    let name = ap (name_of A.props.name) (leaves.logs.in_use s) in
     record {
       named = subst IsNamed (sym (leaves.logs.in_use s)) log.named;
       bytes = log.bytes;
-      there = ap (get new) name ∙ leaves.more (name_of A.name (log_in_use A H s)) log.bytes log.there;
-      known = ap (λ (fs : List KnownFile). bytes_in fs (name_of A.name (log_in_use A K s))) leaves.logs.files ∙ ap (bytes_in (files_of A H)) name ∙ log.known;
+      there = ap (get new) name ∙ leaves.more (name_of A.props.name (log_in_use A H s)) log.bytes log.there;
+      known = ap (λ (fs : List KnownFile). bytes_in fs (name_of A.props.name (log_in_use A K s))) leaves.logs.files ∙ ap (bytes_in (files_of A H)) name ∙ log.known;
       blocks = log.blocks;
       fit = log.fit;
       whole = log.whole;
@@ -45,7 +45,7 @@ module _ (A : Table) (H K : History) (image : FileMap) (s : Target) (kept : Kept
   slices_apart r apart used same =
       let one : file.Log r.group r.slice (version_in_use A H r) (record { session = A.session; attempt = attempt_in_use A H r })
       ≡ file.Log s.group s.slice (version_in_use A H s) (record { session = A.session; attempt = attempt_in_use A H s }) =
-      name_of_injective A.name (log_in_use A H r) (log_in_use A H s) (kept.logs r used).named to.named same in
+      name_of_injective A.props.name (log_in_use A H r) (log_in_use A H s) (kept.logs r used).named to.named same in
       let g : s.group ≡ r.group = cc in
       let sl : s.slice ≡ r.slice = cc in
       apart (λ i. record { group = g i; slice = sl i })
@@ -56,7 +56,7 @@ module _ (A : Table) (H K : History) (image : FileMap) (s : Target) (kept : Kept
   unfolding OpenLogs
   other_log r apart used same known =
       let old = kept.logs r used in
-      let name = ap (name_of A.name) same in
+      let name = ap (name_of A.props.name) same in
       record {
         named = subst IsNamed (sym same) old.named;
         bytes = old.bytes;
@@ -74,7 +74,7 @@ module _ (A : Table) (H K : History) (image : FileMap) (s : Target) (kept : Kept
     (placing : IsPlacing A H K s (block_bytes block)) where
   log_here : IsOpenLog (with_more A H image s (block_bytes block)) A K s
   log_here =
-      let name = ap (name_of A.name) placing.here in
+      let name = ap (name_of A.props.name) placing.here in
       record {
         named = subst IsNamed (sym placing.here) to.named;
         bytes = content image (name_in_use A H s) ++ block_bytes block;
@@ -120,7 +120,7 @@ module _ (A : Table) (H K : History) (image : FileMap) (s : Target) (kept : Kept
       let was : is_unused A H r ≡ false = sym (failing.others.unused r apart) ∙ used in
       let old = kept.logs r was in
       let same = failing.others.in_use r apart was in
-      let name = ap (name_of A.name) same in
+      let name = ap (name_of A.props.name) same in
       record {
         named = subst IsNamed (sym same) old.named;
         bytes = old.bytes;

@@ -1,11 +1,13 @@
 -- A table that was just opened: what stands for it is kept. And what is kept stands.
-use Rattle.std.proofs.Common.{◌≡◌, ◌⊎◌, inl, inr, ◌<◌, ◌≤◌, ◌+◌, ℕ, true, false, List, [], ◌∷◌, ◌++◌, length, Option, Some, None, max, refl, sym, ◌∙◌, subst, arith}
-use Rattle.std.specs.FinMap.{empty, get, get-empty}
+use Rattle.std.proofs.Common.{◌≡◌, ◌⊎◌, inl, inr, ◌<◌, ◌≤◌, ◌+◌, ℕ, true, false, List, [], ◌∷◌, ◌++◌, length, Option, Some, None, Ok, IsSomeAnd, max, refl, sym, ap, ◌∙◌, subst, arith}
+use Rattle.std.specs.FinMap.{empty, get, insert, get-empty}
 use Rattle.std.specs.Ordering.{nat_cmp}
 use Rattle.std.specs.Cmp.Lexicographic.{slice_cmp}
 use Rattle.hudi_base.specs.Files.{FileMap, IsImage, changed_all}
 use Rattle.hudi_base.specs.declared.file_group.Target.{Target}
 use Rattle.hudi_base.specs.declared.operation.Operation.{Operation}
+use Rattle.file_names.specs.FileName.{name_of, kind_of, base, log}
+use Rattle.file_names.specs.declared.file_name.FileName.{FileName}
 use Rattle.file_names.specs.declared.file_name.FileName.TheVariants as file
 use Rattle.file_names.specs.declared.file_name.State.TheVariants as state
 use Rattle.file_names.specs.declared.file_name.Token.{Token}
@@ -26,19 +28,23 @@ use Rattle.table_images.specs.Stands.{StandsFor, StandsAfter, IsJustOpened, Know
 use Rattle.table_images.specs.Stops.{IsAtStop}
 use Rattle.table_images.specs.Timeline.{TimelineFiles, HasReached, ReadsAs, timeline_name}
 use Rattle.table_images.proofs.Failing.{fails}
+use Rattle.table_images.proofs.Frame.{get_here}
 use Rattle.table_images.proofs.Images.{between, images, image_behind}
 use Rattle.key_index.specs.Tiling.{IsBuckets}
 use Rattle.key_index.proofs.FirstTiles.{first-tiling}
 use Rattle.table_images.proofs.Keeps.{keeps}
 use Rattle.table_images.proofs.Lines.{at_after, first_least, under_greatest, greatest_least, none_some}
 use Rattle.table_images.proofs.NumberCells.{up_to}
+use Rattle.table_images.proofs.PropertiesCells.{beside_properties, first_files, is_properties}
 use Rattle.table_images.proofs.WhereTo.{itself_target}
+use Rattle.table_props.specs.PropsTexts.{Told as Properties, read_props}
 
 -- ---- what is kept stands
 
 pub stands_of : (A : Table) (image : FileMap) (H : History) → Kept A image H → StandsAfter A image H
 unfolding ChainsHold
 stands_of A image H kept = record {
+  properties = kept.properties;
   timeline = kept.timeline;
   whole = kept.whole;
   tiles = kept.tiles;
@@ -81,10 +87,11 @@ version_below (known ∷ fs) s version token (inr more) = later _ version (great
 pub kept_of : (A : Table) (files : FileMap) → StandsFor files A 0 → IsJustOpened files A → Kept A files []
 unfolding TimelineFiles WholeBlocks ChainsHold KnownFiles OwnedInstants OpenLogs VersionsRise
 kept_of A files stands opened = record {
+  properties = stands.properties;
   timeline = λ t action s time.
       let marked = stands.timeline t action s time in
       record {
-        there = λ reached. subst (λ (o : Option Instant). ReadsAs A.name o action s (get files (timeline_name A t action s))) (sym (same_instants A t))
+        there = λ reached. subst (λ (o : Option Instant). ReadsAs A.props.name o action s (get files (timeline_name A t action s))) (sym (same_instants A t))
             (marked.there (subst (λ (o : Option Instant). HasReached o action s) (same_instants A t) reached));
         only = λ bytes is. subst (λ (o : Option Instant). HasReached o action s) (sym (same_instants A t)) (marked.only bytes is);
       };
@@ -129,18 +136,19 @@ kept_of A files stands opened = record {
     below : (s : Target) (version : ℕ) (token : Token) → Knows A.files (file.Log s.group s.slice version token) → version < version_in_use A [] s
     below s version token knows = let le = version_below A.files s version token knows in omega (arith, le)
 
--- ---- a table without files
+-- ---- a table without instants
 
-pub fresh_stands : (name : List ℕ) (buckets : ℕ) → IsBuckets buckets → StandsFor empty (fresh name buckets) 0
+pub fresh_stands : (props : Properties) (bytes : List ℕ) → IsBuckets props.buckets → read_props bytes ≡ Ok props → StandsFor (first_files props bytes) (fresh props) 0
 unfolding TimelineFiles WholeBlocks ChainsHold KnownFiles
-fresh_stands name buckets fit = record {
-  timeline = λ t action s time. record { there = λ reached. absurd reached; only = λ bytes is. absurd (none (sym (get-empty (slice_cmp nat_cmp) _) ∙ is)) };
-  whole = λ group slice version token bytes has. absurd (none (sym (get-empty (slice_cmp nat_cmp) _) ∙ has.there));
-  tiles = (fit, λ partition. first-tiling partition buckets fit);
+fresh_stands props text fit reads = record {
+  properties = subst (λ (c : Option (List ℕ)). IsSomeAnd c (λ bytes. read_props bytes ≡ Ok props)) (sym (get_here empty (name_of props.name file.Properties) text)) reads;
+  timeline = λ t action s time. record { there = λ reached. absurd reached; only = λ bytes is. absurd (none (sym (beside_properties props text (file.Instant t action s) time refl) ∙ is)) };
+  whole = λ group slice version token bytes has. absurd (none (sym (beside_properties props text (file.Log group slice version token) has.named refl) ∙ has.there));
+  tiles = (fit, λ partition. first-tiling partition props.buckets fit);
   chains = λ group named. (
     empty,
     record {
-      logs = λ slice version token named. get-empty (slice_cmp nat_cmp) _ ∙ sym (get-empty (slice_cmp nat_cmp) _);
+      logs = λ slice version token named. get-empty (slice_cmp nat_cmp) _ ∙ sym (beside_properties props text (file.Log group slice version token) named refl);
       alone = λ key bytes is. absurd (none (sym (get-empty (slice_cmp nat_cmp) _) ∙ is));
     },
     record {
@@ -149,8 +157,8 @@ fresh_stands name buckets fit = record {
     },
   );
   numbers = record {
-    logs = λ group slice version token bytes has. absurd (none (sym (get-empty (slice_cmp nat_cmp) _) ∙ has.there));
-    bases = λ group token t bytes has. absurd (none (sym (get-empty (slice_cmp nat_cmp) _) ∙ has.there));
+    logs = λ group slice version token bytes has. absurd (none (sym (beside_properties props text (file.Log group slice version token) has.named refl) ∙ has.there));
+    bases = λ group token t bytes has. absurd (none (sym (beside_properties props text (file.Base group token t) has.named refl) ∙ has.there));
     earliest = inl refl;
     starts = λ t i is. absurd (none_some is);
   };
@@ -160,13 +168,17 @@ fresh_stands name buckets fit = record {
     none : {X : Type 0} {x : X} → None ≡ Some x → ⊥
     none is = none_some is
 
-pub fresh_just_opened : (name : List ℕ) (buckets : ℕ) → IsJustOpened empty (fresh name buckets)
-fresh_just_opened name buckets = record {
-  opened = fresh_opened name buckets;
+pub fresh_just_opened : (props : Properties) (bytes : List ℕ) → IsJustOpened (first_files props bytes) (fresh props)
+fresh_just_opened props text = record {
+  opened = fresh_opened props;
   last = omega arith;
-  known = λ of bytes has kind. absurd (none_some (sym (get-empty (slice_cmp nat_cmp) _) ∙ has.there));
+  known = λ of bytes has kind. absurd (none_some (sym (beside_properties props text of has.named (by_kind of kind)) ∙ has.there));
   once = tt;
 }
+  where
+    by_kind : (of : FileName) → (kind_of of ≡ base) ⊎ (kind_of of ≡ log) → is_properties (kind_of of) ≡ false
+    by_kind of (inl is) = ap is_properties is
+    by_kind of (inr is) = ap is_properties is
 
 -- ---- every image of a run
 

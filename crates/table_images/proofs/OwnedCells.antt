@@ -91,7 +91,7 @@ all_targets P (g ∷ gs) all = (all.0, all_targets P gs all.1)
 
 current_one : (A : Table) (g : GroupRef) → is_live A g ≡ true → IsPartitionPath g.partition → IsCurrent A (target_of_group g)
 current_one A g live partition =
-    let born = first-born A.buckets g live in
+    let born = first-born A.props.buckets g live in
     let least = first_least A.instants in
     record { live = live; partition = partition; slice = refl; bounded = omega (arith, born, least) }
 

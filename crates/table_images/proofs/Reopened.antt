@@ -117,13 +117,14 @@ opened_again image A files listing = record {
 pub stands_again : (image : FileMap) (A : Table) (tries : ℕ) (files : List KnownFile) → StandsFor image A tries → IsListing image A files → StandsFor image (reopened A files) 0
 unfolding TimelineFiles WholeBlocks ChainsHold KnownFiles
 stands_again image A tries files stands listing = record {
+  properties = stands.properties;
   timeline = λ t action s time.
       let marked = stands.timeline t action s time in
       let back : HasReached (instant_at (reopened A files).instants t) action s → HasReached (instant_at A.instants t) action s =
       λ reached. reached_back (instant_at A.instants t) action s (subst (λ (o : Option Instant). HasReached o action s) (at_reopened A.instants t) reached) in
       record {
-        there = λ reached. subst (λ (o : Option Instant). ReadsAs A.name o action s (get image (timeline_name A t action s))) (sym (at_reopened A.instants t))
-            (reads_unowned A.name (instant_at A.instants t) action s (get image (timeline_name A t action s)) (marked.there (back reached)));
+        there = λ reached. subst (λ (o : Option Instant). ReadsAs A.props.name o action s (get image (timeline_name A t action s))) (sym (at_reopened A.instants t))
+            (reads_unowned A.props.name (instant_at A.instants t) action s (get image (timeline_name A t action s)) (marked.there (back reached)));
         only = λ bytes is. subst (λ (o : Option Instant). HasReached o action s) (sym (at_reopened A.instants t)) (reached_on (instant_at A.instants t) action s (marked.only bytes is));
       };
   whole = λ group slice version token bytes has. stands.whole group slice version token bytes (record { named = has.named; there = has.there });

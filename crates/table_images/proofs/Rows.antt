@@ -47,6 +47,7 @@ use Rattle.table_images.proofs.Frame.{get_apart}
 use Rattle.table_images.proofs.Lines.{at_after, greatest_rises, none_some}
 use Rattle.table_images.proofs.MetadataBack.{empty_reads, claims_read, delta_reads}
 use Rattle.table_images.proofs.OwnedCells.{owned_still, owned_advanced, owned_more, owned-begun, owned-entered}
+use Rattle.table_images.proofs.PropertiesCells.{properties_still, properties_marked}
 use Rattle.table_images.proofs.SameLogs.{SameLogs, LeavesLogs, IsNoAppend, same_logs, entry}
 use Rattle.table_images.proofs.WholeCells.{whole_still}
 use Rattle.table_images.proofs.KnownCells.{known_still}
@@ -66,6 +67,7 @@ completions_rise A H e = by_reply e.reply refl
 pub row_quiet : (A : Table) (H : History) (image : FileMap) (j : Job) (s : Step) (r : Reply) → IsNoAppend s → KeepsLine IsNoMore A H (entry j s r ∷ H) → Kept A image H → Kept A image (entry j s r ∷ H)
 unfolding ChainsHold
 row_quiet A H image j s r other line kept = record {
+  properties = properties_still A H K image image refl kept.properties;
   timeline = timeline_still A H K image image stages (λ t action st time. refl) kept;
   whole = whole_still A H K image image leaves kept;
   tiles = kept.tiles;
@@ -102,19 +104,20 @@ leaves_made : (A : Table) (H K : History) (image : FileMap) (t : ℕ) (s : State
     → greatest_in (after_history A H).instants ≤ greatest_in (after_history A K).instants → LeavesLogs A H K image (with_marked A image t s bytes)
 leaves_made A H K image t s bytes time absent same le = record {
   logs = same;
-  files = λ of named kind. get_apart image (timeline_name A t Delta s) bytes (name_of A.name of) (λ one. kind (ap kind_of (name_of_injective A.name of (file.Instant t Delta s) named time one)));
+  files = λ of named kind. get_apart image (timeline_name A t Delta s) bytes (name_of A.props.name of) (λ one. kind (ap kind_of (name_of_injective A.props.name of (file.Instant t Delta s) named time one)));
   more = λ name content is. get_apart image (timeline_name A t Delta s) bytes name (λ one. none_some (sym absent ∙ ap (get image) (sym one) ∙ is)) ∙ is;
   greatest = le;
 }
 
 row_advanced : (A : Table) (H : History) (image : FileMap) (j : Job) (st : Step) (r : Reply) (t : ℕ) (s : State) (bytes : List ℕ) (found : Instant) → IsNoAppend st → IsTime t
-    → meta_of A.name Delta s bytes ≡ Ok (metadata found s)
+    → meta_of A.props.name Delta s bytes ≡ Ok (metadata found s)
     → get image (timeline_name A t Delta s) ≡ None → Advances A H (entry j st r ∷ H) t s found → found.start ≤ completions A (entry j st r ∷ H)
     → ((job : Job) → found.owner ≡ Some job → IsOwnedWrite (after_history A (entry j st r ∷ H)) t found)
     → ((group : GroupRef) (chain : FileMap) → IsChain image (after_history A H) group chain → Holds A H group (blocks_of_chain chain) → HoldsHere A H group (blocks_of_chain chain) t found)
     → Kept A image H → Kept A (with_marked A image t s bytes) (entry j st r ∷ H)
 unfolding ChainsHold
 row_advanced A H image j st r t s bytes found other time reads absent advance start owner here kept = record {
+  properties = properties_still A H K image (with_marked A image t s bytes) (properties_marked A image t s bytes time) kept.properties;
   timeline = timeline_made A H K image t s bytes found time advance reads kept;
   whole = whole_still A H K image (with_marked A image t s bytes) leaves kept;
   tiles = kept.tiles;
@@ -144,9 +147,9 @@ row_advanced A H image j st r t s bytes found other time reads absent advance st
     leaves = leaves_made A H (entry j st r ∷ H) image t s bytes time absent (same_logs A H j st r other) (greatest_rises A H (entry j st r))
 
 pub row_begun : (A : Table) (H : History) (image : FileMap) (j : Job) (t : ℕ) → IsOpened A → greatest_in A.instants ≤ A.last → greatest_time A H < t → IsTime t
-    → get image (timeline_name A t Delta Requested) ≡ None → Kept A image H → Kept A (with_marked A image t Requested (meta_bytes A.name meta.Empty)) (entry j Begin (reply.Began t) ∷ H)
+    → get image (timeline_name A t Delta Requested) ≡ None → Kept A image H → Kept A (with_marked A image t Requested (meta_bytes A.props.name meta.Empty)) (entry j Begin (reply.Began t) ∷ H)
 row_begun A H image j t opened last above time absent kept =
-    row_advanced A H image j Begin (reply.Began t) t Requested (meta_bytes A.name meta.Empty) (begun j (completions A H)) tt time (empty_reads A.name) absent (advances_begun A H (entry j Begin (reply.Began t)) t j (undrawn A H opened t above) (λ u. refl))
+    row_advanced A H image j Begin (reply.Began t) t Requested (meta_bytes A.props.name meta.Empty) (begun j (completions A H)) tt time (empty_reads A.props.name) absent (advances_begun A H (entry j Begin (reply.Began t)) t j (undrawn A H opened t above) (λ u. refl))
     (completions_rise A H (entry j Begin (reply.Began t))) (λ job owner. owned-begun (after_history A (entry j Begin (reply.Began t) ∷ H)) t j (completions A H) time)
     (λ group chain is holds. here_begun A H group (blocks_of_chain chain) t (begun j (completions A H)) (greatest_in (after_history A H).instants) higher (chain_bounded A H image group chain kept is) refl refl) kept
   where
@@ -181,34 +184,34 @@ written_at A H t i is = ap (λ (o : Option Instant). written (λ target. option_
 
 -- ---- which metadata has a written form
 
-named_target : (A : Table) (s : Target) → IsBuckets A.buckets → IsCurrent A s → IsTarget s
+named_target : (A : Table) (s : Target) → IsBuckets A.props.buckets → IsCurrent A s → IsTarget s
 named_target A s fit current =
-    let first = first-is A.buckets s.group fit current.live in
+    let first = first-is A.props.buckets s.group fit current.live in
     let born : IsTime s.group.born = subst IsTime (sym first.born) (lit≤ tt, lit≤ tt) in
     record {
       group = record { partition = current.partition; lo = first.lo; hi = first.hi; born = born };
       slice = subst IsTime (sym current.slice) born;
     }
 
-named_targets : (A : Table) → IsBuckets A.buckets → (targets : List Target) → AllByRecursion (IsCurrent A) targets → AllByRecursion IsTarget targets
+named_targets : (A : Table) → IsBuckets A.props.buckets → (targets : List Target) → AllByRecursion (IsCurrent A) targets → AllByRecursion IsTarget targets
 named_targets A fit [] all = tt
 named_targets A fit (s ∷ targets) all = (named_target A s fit all.0, named_targets A fit targets all.1)
 
-written_targets : (A : Table) → IsBuckets A.buckets → (blocks : List Block) → ((target : ℕ) → writes_among target blocks < 2 ^ 32) → (number : ℕ) (targets : List Target) → AllByRecursion (IsCurrent A) targets
+written_targets : (A : Table) → IsBuckets A.props.buckets → (blocks : List Block) → ((target : ℕ) → writes_among target blocks < 2 ^ 32) → (number : ℕ) (targets : List Target) → AllByRecursion (IsCurrent A) targets
     → AllByRecursion (λ w. IsTarget w.0 × (w.1 < 2 ^ 32)) (written (λ target. writes_among target blocks) number targets)
 written_targets A fit blocks few number [] all = tt
 written_targets A fit blocks few number (s ∷ targets) all = ((named_target A s fit all.0, few number), written_targets A fit blocks few (number + 1) targets all.1)
 
 pub row_entered : (A : Table) (H : History) (image : FileMap) (j : Job) (t : ℕ) (slots : List PartitionSlots) (targets : List Target) (i : Instant) → instant_of A H t ≡ Some i → i.owner ≡ Some j
     → i.state ≡ Requested → All (λ (asked : PartitionSlots). IsPartitionPath asked.partition) slots → AreTargets A slots targets → get image (timeline_name A t Delta Inflight) ≡ None → Kept A image H
-    → Kept A (with_marked A image t Inflight (meta_bytes A.name (meta.Claims targets))) (entry j (Enter t slots) (reply.Entered targets) ∷ H)
+    → Kept A (with_marked A image t Inflight (meta_bytes A.props.name (meta.Claims targets))) (entry j (Enter t slots) (reply.Entered targets) ∷ H)
 unfolding OwnedInstants
 row_entered A H image j t slots targets i is owner requested paths are absent kept =
     let owned = kept.owned t i j is owner in
     let e = entry j (Enter t slots) (reply.Entered targets) in
     let current = owned-entered (after_history A (e ∷ H)) t i slots targets paths (targets_after A (e ∷ H) slots targets are) requested (owned_more A H (e ∷ H) t i (greatest_rises A H e) owned) in
-    row_advanced A H image j (Enter t slots) (reply.Entered targets) t Inflight (meta_bytes A.name (meta.Claims targets)) (entered targets i) tt owned.time
-    (claims_read A.name targets (named_targets (after_history A (e ∷ H)) kept.tiles.0 targets current.targets)) absent
+    row_advanced A H image j (Enter t slots) (reply.Entered targets) t Inflight (meta_bytes A.props.name (meta.Claims targets)) (entered targets i) tt owned.time
+    (claims_read A.props.name targets (named_targets (after_history A (e ∷ H)) kept.tiles.0 targets current.targets)) absent
     (advances_changed A H e t (entered targets) i Inflight is owned.action (next_of i.state Requested Inflight requested tt) refl refl
     (λ r reached. said_entered i targets r (ap (λ s. has_reached s r) (sym requested) ∙ reached)) (λ u. refl))
     (start_of A H image t i e kept is)
@@ -217,16 +220,16 @@ row_entered A H image j t slots targets i is owner requested paths are absent ke
 
 pub row_completed : (A : Table) (H : History) (image : FileMap) (j : Job) (t : ℕ) (checkpoint : Option ℕ) (i : Instant) → instant_of A H t ≡ Some i → i.owner ≡ Some j → i.failed ≡ false
     → i.state ≡ Inflight → IfSome checkpoint (λ n. n < 2 ^ 64) → get image (timeline_name A t Delta Completed) ≡ None → Kept A image H
-    → Kept A (with_marked A image t Completed (meta_bytes A.name (meta.Delta (record { checkpoint = checkpoint; groups = written_by A H t })))) (entry j (Finish t checkpoint) (reply.Completed t) ∷ H)
+    → Kept A (with_marked A image t Completed (meta_bytes A.props.name (meta.Delta (record { checkpoint = checkpoint; groups = written_by A H t })))) (entry j (Finish t checkpoint) (reply.Completed t) ∷ H)
 unfolding OwnedInstants
 row_completed A H image j t checkpoint i is owner sound inflight fits absent kept =
     let owned = kept.owned t i j is owner in
     let e = entry j (Finish t checkpoint) (reply.Completed t) in
     let all = written_targets (after_history A H) kept.tiles.0 i.blocks owned.writes 0 i.targets owned.targets in
-    row_advanced A H image j (Finish t checkpoint) (reply.Completed t) t Completed (meta_bytes A.name (meta.Delta (record { checkpoint = checkpoint; groups = written_by A H t })))
+    row_advanced A H image j (Finish t checkpoint) (reply.Completed t) t Completed (meta_bytes A.props.name (meta.Delta (record { checkpoint = checkpoint; groups = written_by A H t })))
     (completed (completions A H) checkpoint i) tt owned.time
-    (subst (λ (groups : List (Target × ℕ)). meta_of A.name Delta Completed (meta_bytes A.name (meta.Delta (record { checkpoint = checkpoint; groups = groups }))) ≡ Ok (metadata (completed (completions A H) checkpoint i) Completed))
-    (sym (written_at A H t i is)) (delta_reads A.name (record { checkpoint = checkpoint; groups = written (λ target. writes_among target i.blocks) 0 i.targets }) all fits)) absent
+    (subst (λ (groups : List (Target × ℕ)). meta_of A.props.name Delta Completed (meta_bytes A.props.name (meta.Delta (record { checkpoint = checkpoint; groups = groups }))) ≡ Ok (metadata (completed (completions A H) checkpoint i) Completed))
+    (sym (written_at A H t i is)) (delta_reads A.props.name (record { checkpoint = checkpoint; groups = written (λ target. writes_among target i.blocks) 0 i.targets }) all fits)) absent
     (advances_changed A H e t (completed (completions A H) checkpoint) i Completed is owned.action (next_of i.state Inflight Completed inflight tt) refl refl
     (λ r reached. said_completed i (completions A H) checkpoint r (ap (λ s. has_reached s r) (sym inflight) ∙ reached)) (λ u. refl))
     (start_of A H image t i e kept is)

@@ -104,7 +104,7 @@ same_logs A H j (Abandon t) r other = record {
 -- base and log files are as they were, and no file went away or changed
 pub record LeavesLogs (A : Table) (H K : History) (image new : FileMap) : Type 0 where
   pub logs : SameLogs A H K
-  pub files : (of : FileName) → IsNamed of → (kind_of of ≡ timeline → ⊥) → get new (name_of A.name of) ≡ get image (name_of A.name of)
+  pub files : (of : FileName) → IsNamed of → (kind_of of ≡ timeline → ⊥) → get new (name_of A.props.name of) ≡ get image (name_of A.props.name of)
   pub more : (name bytes : List ℕ) → get image name ≡ Some bytes → get new name ≡ Some bytes
   pub greatest : greatest_in (after_history A H).instants ≤ greatest_in (after_history A K).instants
 

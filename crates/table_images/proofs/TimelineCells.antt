@@ -45,7 +45,7 @@ reached_new A H K line t action s (Some old) is reached =
 
 -- what the file says that marks a reached state is the same
 abbrev Says : Table → History → History → ℕ → Action → State → Type 0
-Says A H K t action s = HasReached (instant_of A K t) action s → (c : Option (List ℕ)) → ReadsAs A.name (instant_of A H t) action s c → ReadsAs A.name (instant_of A K t) action s c
+Says A H K t action s = HasReached (instant_of A K t) action s → (c : Option (List ℕ)) → ReadsAs A.props.name (instant_of A H t) action s c → ReadsAs A.props.name (instant_of A K t) action s c
 
 reads_same : (table : List ℕ) (old new : Instant) (action : Action) (s : State) (c : Option (List ℕ)) → metadata new s ≡ metadata old s → ReadsAs table (Some old) action s c → ReadsAs table (Some new) action s c
 reads_same table old new action s None same reads = reads
@@ -53,7 +53,7 @@ reads_same table old new action s (Some bytes) same reads = reads ∙ ap Ok (sym
 
 says_new : (A : Table) (H K : History) (t : ℕ) (action : Action) (s : State) (old new : Instant) → instant_of A H t ≡ Some old → instant_of A K t ≡ Some new → metadata new s ≡ metadata old s → Says A H K t action s
 says_new A H K t action s old new was is same reached c reads =
-    subst (λ (o : Option Instant). ReadsAs A.name o action s c) (sym is) (reads_same A.name old new action s c same (subst (λ (o : Option Instant). ReadsAs A.name o action s c) was reads))
+    subst (λ (o : Option Instant). ReadsAs A.props.name o action s c) (sym is) (reads_same A.props.name old new action s c same (subst (λ (o : Option Instant). ReadsAs A.props.name o action s c) was reads))
 
 says_still : (A : Table) (H K : History) → KeepsLine IsSameStage A H K → (t : ℕ) (action : Action) (s : State) (o : Option Instant) → instant_of A K t ≡ o → Says A H K t action s
 says_still A H K line t action s None is reached c reads = absurd (subst (λ (o : Option Instant). HasReached o action s) is reached)
@@ -70,9 +70,9 @@ marked_as A H K image new t action s file back on says marked = record {
   there = λ reached.
       let here : HasReached (instant_of A K t) action s = subst (λ (o : Option Instant). HasReached o action s) (at_after A K t) reached in
       let old = marked.there (subst (λ (o : Option Instant). HasReached o action s) (sym (at_after A H t)) (back here)) in
-      subst (λ (o : Option Instant). ReadsAs A.name o action s (get new (timeline_name A t action s))) (sym (at_after A K t))
-      (says here (get new (timeline_name A t action s)) (subst (λ (c : Option (List ℕ)). ReadsAs A.name (instant_of A H t) action s c) (sym file)
-      (subst (λ (o : Option Instant). ReadsAs A.name o action s (get image (timeline_name A t action s))) (at_after A H t) old)));
+      subst (λ (o : Option Instant). ReadsAs A.props.name o action s (get new (timeline_name A t action s))) (sym (at_after A K t))
+      (says here (get new (timeline_name A t action s)) (subst (λ (c : Option (List ℕ)). ReadsAs A.props.name (instant_of A H t) action s c) (sym file)
+      (subst (λ (o : Option Instant). ReadsAs A.props.name o action s (get image (timeline_name A t action s))) (at_after A H t) old)));
   only = λ bytes is. subst (λ (o : Option Instant). HasReached o action s) (sym (at_after A K t))
       (on (subst (λ (o : Option Instant). HasReached o action s) (at_after A H t) (marked.only bytes (sym file ∙ is))));
 }
@@ -87,7 +87,7 @@ timeline_still A H K image new line files kept t action s time =
 -- ---- a file of the timeline is made
 
 pub timeline_made : (A : Table) (H K : History) (image : FileMap) (t : ℕ) (s : State) (bytes : List ℕ) (made : Instant) → IsTime t → Advances A H K t s made
-    → meta_of A.name Delta s bytes ≡ Ok (metadata made s) → Kept A image H → TimelineFiles (insert image (timeline_name A t Delta s) bytes) (after_history A K)
+    → meta_of A.props.name Delta s bytes ≡ Ok (metadata made s) → Kept A image H → TimelineFiles (insert image (timeline_name A t Delta s) bytes) (after_history A K)
 unfolding TimelineFiles
 timeline_made A H K image t s bytes found time advance reads kept u action r utime = by_name (one_name (timeline_name A u action r) (timeline_name A t Delta s))
   where
@@ -109,10 +109,10 @@ timeline_made A H K image t s bytes found time advance reads kept u action r uti
         let rs : s ≡ r = cc in
         record {
           there = λ reached.
-              subst (λ (o : Option Instant). ReadsAs A.name o action r (get new (timeline_name A u action r))) (sym (at_after A K u))
-              (subst (λ (o : Option Instant). ReadsAs A.name o action r (get new (timeline_name A u action r))) (sym advance.at ∙ ap (instant_of A K) ut)
-              (subst (λ (c : Option (List ℕ)). ReadsAs A.name (Some found) action r c) (sym (ap (λ (of : FileName). get new (name_of A.name of)) same ∙ get_here image (timeline_name A t Delta s) bytes))
-              (subst (λ a. ReadsAs A.name (Some found) a r (Some bytes)) ad (subst (λ q. ReadsAs A.name (Some found) Delta q (Some bytes)) rs reads))));
+              subst (λ (o : Option Instant). ReadsAs A.props.name o action r (get new (timeline_name A u action r))) (sym (at_after A K u))
+              (subst (λ (o : Option Instant). ReadsAs A.props.name o action r (get new (timeline_name A u action r))) (sym advance.at ∙ ap (instant_of A K) ut)
+              (subst (λ (c : Option (List ℕ)). ReadsAs A.props.name (Some found) action r c) (sym (ap (λ (of : FileName). get new (name_of A.props.name of)) same ∙ get_here image (timeline_name A t Delta s) bytes))
+              (subst (λ a. ReadsAs A.props.name (Some found) a r (Some bytes)) ad (subst (λ q. ReadsAs A.props.name (Some found) Delta q (Some bytes)) rs reads))));
           only = λ content is. subst (λ (o : Option Instant). HasReached o action r) (sym (at_after A K u))
               (subst (λ n. HasReached (instant_of A K n) action r) ut (subst (λ a. HasReached (instant_of A K t) a r) ad (subst (λ q. HasReached (instant_of A K t) Delta q) rs now)));
         }
@@ -135,14 +135,14 @@ timeline_made A H K image t s bytes found time advance reads kept u action r uti
     on (inr other) reached = subst (λ (o : Option Instant). HasReached o action r) (sym (advance.others u other)) reached
 
     says : (timeline_name A u action r ≡ timeline_name A t Delta s → ⊥) → (o : Option Instant) → instant_of A H u ≡ o → (t ≡ u) ⊎ (t ≡ u → ⊥) → Says A H K u action r
-    says apart None was at reached c reads = absurd (subst (λ (o : Option Instant). ReadsAs A.name o action r c) was reads)
+    says apart None was at reached c reads = absurd (subst (λ (o : Option Instant). ReadsAs A.props.name o action r c) was reads)
     says apart (Some old) was (inl here) reached c reads =
         by_case (advance.after action r (subst (λ n. HasReached (instant_of A K n) action r) (sym here) reached))
       where
         old_at : instant_of A H t ≡ Some old
         old_at = ap (instant_of A H) here ∙ was
 
-        by_case : ((action ≡ Delta) × (r ≡ s)) ⊎ HasReached (instant_of A H t) action r → ReadsAs A.name (instant_of A K u) action r c
+        by_case : ((action ≡ Delta) × (r ≡ s)) ⊎ HasReached (instant_of A H t) action r → ReadsAs A.props.name (instant_of A K u) action r c
         by_case (inl same) = absurd (apart (ap (λ n. timeline_name A n action r) (sym here) ∙ (λ i. timeline_name A t (same.0 i) (same.1 i))))
         by_case (inr before) =
             says_new A H K u action r old found was (ap (instant_of A K) (sym here) ∙ advance.at)
@@ -151,7 +151,7 @@ timeline_made A H K image t s bytes found time advance reads kept u action r uti
         says_new A H K u action r old old was (advance.others u other ∙ was) refl reached c reads
 
     by_name : (timeline_name A u action r ≡ timeline_name A t Delta s) ⊎ (timeline_name A u action r ≡ timeline_name A t Delta s → ⊥) → IsMarked new (after_history A K) u action r
-    by_name (inl same) = made (name_of_injective A.name (file.Instant u action r) (file.Instant t Delta s) utime time same)
+    by_name (inl same) = made (name_of_injective A.props.name (file.Instant u action r) (file.Instant t Delta s) utime time same)
     by_name (inr apart) =
         marked_as A H K image new u action r (get_apart image (timeline_name A t Delta s) bytes (timeline_name A u action r) apart) (back apart (number_cases t u)) (on (number_cases t u))
         (says apart (instant_of A H u) refl (number_cases t u)) (kept.timeline u action r utime)
@@ -167,4 +167,4 @@ pub timeline_apart : (A : Table) (H : History) (image : FileMap) (s : Target) (m
 timeline_apart A H image s more named t action st time =
     get_apart image (name_in_use A H s) (content image (name_in_use A H s) ++ more) (timeline_name A t action st)
     (λ same. instant_no_log t action st s.group s.slice (version_in_use A H s) (record { session = A.session; attempt = attempt_in_use A H s })
-    (name_of_injective A.name (file.Instant t action st) (log_in_use A H s) time named same))
+    (name_of_injective A.props.name (file.Instant t action st) (log_in_use A H s) time named same))

@@ -52,7 +52,7 @@ module _ (A : Table) (H K : History) (image : FileMap) (s : Target) (kept : Kept
       still old (inr apart) = other_version A H K image s kept to (block_bytes block) placing.others r version token apart old
 
       by_file : ((file.Log r.group r.slice version token ≡ log_in_use A H s) × (bytes ≡ content image (name_in_use A H s) ++ block_bytes block))
-          ⊎ ((name_of A.name (file.Log r.group r.slice version token) ≡ name_in_use A H s → ⊥) × (get image (name_of A.name (file.Log r.group r.slice version token)) ≡ Some bytes))
+          ⊎ ((name_of A.props.name (file.Log r.group r.slice version token) ≡ name_in_use A H s → ⊥) × (get image (name_of A.props.name (file.Log r.group r.slice version token)) ≡ Some bytes))
           → IsOldOrInUse A K r version token
       by_file (inl here) =
           let one : file.Log r.group r.slice version token ≡ file.Log s.group s.slice (version_in_use A H s) (record { session = A.session; attempt = attempt_in_use A H s }) = here.0 in
@@ -85,7 +85,7 @@ module _ (A : Table) (H K : History) (image : FileMap) (s : Target) (kept : Kept
   versions_left more r version token bytes has = by_file (another A H image (file.Log r.group r.slice version token) s more bytes to.named has.named has.there).by
     where
       by_file : ((file.Log r.group r.slice version token ≡ log_in_use A H s) × (bytes ≡ content image (name_in_use A H s) ++ more))
-          ⊎ ((name_of A.name (file.Log r.group r.slice version token) ≡ name_in_use A H s → ⊥) × (get image (name_of A.name (file.Log r.group r.slice version token)) ≡ Some bytes))
+          ⊎ ((name_of A.props.name (file.Log r.group r.slice version token) ≡ name_in_use A H s → ⊥) × (get image (name_of A.props.name (file.Log r.group r.slice version token)) ≡ Some bytes))
           → IsOldOrInUse A K r version token
       by_file (inl here) =
           let one : file.Log r.group r.slice version token ≡ file.Log s.group s.slice (version_in_use A H s) (record { session = A.session; attempt = attempt_in_use A H s }) = here.0 in

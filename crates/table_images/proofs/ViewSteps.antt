@@ -76,7 +76,7 @@ logs_known A all (k ∷ fs) s once whole = by_file k.file refl (logs_known A all
         by_test true same =
             let one : record { group = group; slice = slice } ≡ s = one_target (record { group = group; slice = slice }) s same in
             let log : LogFile = record { version = version; session = token.session; attempt = token.attempt; length = length k.bytes } in
-            let name : k.name ≡ name_of A.name (file_of_log s log) = once.0 ∙ ap (name_of A.name) is ∙ ap (λ (r : Target). name_of A.name (file_of_log r log)) one in
+            let name : k.name ≡ name_of A.props.name (file_of_log s log) = once.0 ∙ ap (name_of A.props.name) is ∙ ap (λ (r : Target). name_of A.props.name (file_of_log r log)) one in
             rw is (rw same (all_inserted (IsKnownLog A all s) log (logs_in fs s) (subst (λ n. IsKnownTo all n (length k.bytes)) name whole.0) rest))
         by_test false other = rw is (rw other rest)
     by_file of is rest = rw is rest
@@ -123,7 +123,7 @@ pins_grow A H j s r answers known grows p live is =
 logs_grow : (A : Table) (H K : History) (s : Target) → Grows A H K → logs_of A K s ≡ logs_of A H s → KnownViews A H → AllByRecursion (IsKnownLog A (files_of A K) s) (logs_of A K s)
 logs_grow A H K s grows same known =
     subst (AllByRecursion (IsKnownLog A (files_of A K) s)) (sym same)
-    (all_of (IsKnownLog A (files_of A H) s) (IsKnownLog A (files_of A K) s) (λ log. grows (name_of A.name (file_of_log s log)) log.length) (logs_of A H s) (known.logs s))
+    (all_of (IsKnownLog A (files_of A H) s) (IsKnownLog A (files_of A K) s) (λ log. grows (name_of A.props.name (file_of_log s log)) log.length) (logs_of A H s) (known.logs s))
 
 newest_as : (A : Table) (H K : History) (s : Target) (logs : List LogFile) → log_in_use A K s ≡ log_in_use A H s → IsNewest A H s logs → IsNewest A K s logs
 newest_as A H K s [] same newest = newest
@@ -157,18 +157,18 @@ module _ (A : Table) (H K : History) (s : Target) (bytes : List ℕ) (placed : I
 
   all_before : AllByRecursion (IsKnownLog A (files_of A K) s) (logs_of A H s)
   all_before =
-      all_of (IsKnownLog A (files_of A H) s) (IsKnownLog A (files_of A K) s) (λ log. grows_placed (name_of A.name (file_of_log s log)) log.length) (logs_of A H s) (known.logs s)
+      all_of (IsKnownLog A (files_of A H) s) (IsKnownLog A (files_of A K) s) (λ log. grows_placed (name_of A.props.name (file_of_log s log)) log.length) (logs_of A H s) (known.logs s)
 
-  new_name : is_unused A H s ≡ true → name_of A.name (file.Log s.group s.slice (version_in_use A H s) (record { session = A.session; attempt = attempts A H })) ≡ name_in_use A H s
+  new_name : is_unused A H s ≡ true → name_of A.props.name (file.Log s.group s.slice (version_in_use A H s) (record { session = A.session; attempt = attempts A H })) ≡ name_in_use A H s
   new_name unused =
-      ap (λ n. name_of A.name (file.Log s.group s.slice (version_in_use A H s) (record { session = A.session; attempt = n })))
+      ap (λ n. name_of A.props.name (file.Log s.group s.slice (version_in_use A H s) (record { session = A.session; attempt = n })))
       (sym (ap (λ b. cond b (attempts A H) (opened_at A H s)) unused))
 
   longer : (logs : List LogFile) → IsNewest A H s logs → AllByRecursion (IsKnownLog A (files_of A H) s) logs → AllByRecursion (IsKnownLog A (files_of A K) s) logs
       → AllByRecursion (IsKnownLog A (files_of A K) s) (lengthened (length bytes) logs)
   longer [] newest old all = absurd newest
   longer (log ∷ more) newest old all =
-      let name : name_of A.name (file_of_log s log) ≡ name_in_use A H s = ap (name_of A.name) newest in
+      let name : name_of A.props.name (file_of_log s log) ≡ name_in_use A H s = ap (name_of A.props.name) newest in
       let le : log.length ≤ length (bytes_in (files_of A H) (name_in_use A H s)) = subst (λ n. log.length ≤ length (bytes_in (files_of A H) n)) name old.0.long in
       (subst (λ n. IsKnownTo (files_of A K) n (log.length + length bytes)) (sym name) (more_known log.length le), all.1)
 

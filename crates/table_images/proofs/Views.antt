@@ -91,7 +91,7 @@ abbrev pub file_of_log : Target → LogFile → FileName
 file_of_log s log = file.Log s.group s.slice log.version (record { session = log.session; attempt = log.attempt })
 
 abbrev pub IsKnownLog : Table → List KnownFile → Target → LogFile → Type 0
-IsKnownLog A fs s log = IsKnownTo fs (name_of A.name (file_of_log s log)) log.length
+IsKnownLog A fs s log = IsKnownTo fs (name_of A.props.name (file_of_log s log)) log.length
 
 -- the first of the logs is the one in use
 abbrev pub IsNewest : Table → History → Target → List LogFile → Type 0

@@ -64,11 +64,11 @@ itself_target a = rw (itself_group a.group, itself_number a.slice) refl
 
 -- ---- files by their names
 
-pub one_file : (A : Table) (of other : FileName) → IsNamed of → IsNamed other → (of ≡ other) ⊎ (name_of A.name of ≡ name_of A.name other → ⊥)
-one_file A of other named also = by_name (one_name (name_of A.name of) (name_of A.name other))
+pub one_file : (A : Table) (of other : FileName) → IsNamed of → IsNamed other → (of ≡ other) ⊎ (name_of A.props.name of ≡ name_of A.props.name other → ⊥)
+one_file A of other named also = by_name (one_name (name_of A.props.name of) (name_of A.props.name other))
   where
-    by_name : (name_of A.name of ≡ name_of A.name other) ⊎ (name_of A.name of ≡ name_of A.name other → ⊥) → (of ≡ other) ⊎ (name_of A.name of ≡ name_of A.name other → ⊥)
-    by_name (inl same) = inl (name_of_injective A.name of other named also same)
+    by_name : (name_of A.props.name of ≡ name_of A.props.name other) ⊎ (name_of A.props.name of ≡ name_of A.props.name other → ⊥) → (of ≡ other) ⊎ (name_of A.props.name of ≡ name_of A.props.name other → ⊥)
+    by_name (inl same) = inl (name_of_injective A.props.name of other named also same)
     by_name (inr apart) = inr apart
 
 -- what a table knows of a file that isn't there
@@ -84,11 +84,11 @@ unknown image (k ∷ fs) name all none = by_test (bytes_eq k.name name) refl (un
 
 pub record Goes (A : Table) (H : History) (image : FileMap) (s : Target) : Type 0 where
   pub named : IsNamed (log_in_use A H s)
-  pub known : bytes_in (files_of A H) (name_of A.name (log_in_use A H s)) ≡ content image (name_of A.name (log_in_use A H s))
+  pub known : bytes_in (files_of A H) (name_of A.props.name (log_in_use A H s)) ≡ content image (name_of A.props.name (log_in_use A H s))
   pub blocks : List Block
   pub fit : AllByRecursion Fits blocks
-  pub whole : content image (name_of A.name (log_in_use A H s)) ≡ bytes_of_blocks blocks
-  pub absent : is_unused A H s ≡ true → get image (name_of A.name (log_in_use A H s)) ≡ None
+  pub whole : content image (name_of A.props.name (log_in_use A H s)) ≡ bytes_of_blocks blocks
+  pub absent : is_unused A H s ≡ true → get image (name_of A.props.name (log_in_use A H s)) ≡ None
 
 pub not_below : (n : ℕ) → n < n → ⊥
 not_below n h = omega (arith, h)
@@ -98,7 +98,7 @@ unfolding OpenLogs KnownFiles
 goes A H image s kept named = by_use (is_unused A H s) refl
   where
     name : List ℕ
-    name = name_of A.name (log_in_use A H s)
+    name = name_of A.props.name (log_in_use A H s)
 
     not_made : is_unused A H s ≡ true → (o : Option (List ℕ)) → get image name ≡ o → get image name ≡ None
     not_made unused None is = is

@@ -31,7 +31,7 @@ module _ (A : Table) (H K : History) (image : FileMap) (s : Target) (kept : Kept
   whole_more text group slice version token bytes has = by_file (another A H image (file.Log group slice version token) s more bytes to.named has.named has.there).by
     where
       by_file : ((file.Log group slice version token ≡ log_in_use A H s) × (bytes ≡ content image (name_in_use A H s) ++ more))
-          ⊎ ((name_of A.name (file.Log group slice version token) ≡ name_in_use A H s → ⊥) × (get image (name_of A.name (file.Log group slice version token)) ≡ Some bytes))
+          ⊎ ((name_of A.props.name (file.Log group slice version token) ≡ name_in_use A H s → ⊥) × (get image (name_of A.props.name (file.Log group slice version token)) ≡ Some bytes))
           → IsLogText bytes
       by_file (inl here) = subst IsLogText (sym here.1) text
       by_file (inr other) = kept.whole group slice version token bytes (record { named = has.named; there = other.1 })

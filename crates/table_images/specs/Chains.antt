@@ -40,7 +40,7 @@ Chain = FinMap (slice_cmp nat_cmp) (List ℕ)
 -- The chain of a group in an image: the bytes of its logs. For now a group has no base.
 pub record IsChain (image : FileMap) (A : Table) (group : GroupRef) (chain : Chain) : Type 0 where
   pub logs : (slice version : ℕ) (token : Token) → IsLog group slice version token
-      → get chain (place slice version token) ≡ get image (name_of A.name (file.Log group slice version token))
+      → get chain (place slice version token) ≡ get image (name_of A.props.name (file.Log group slice version token))
   pub alone : (key bytes : List ℕ) → get chain key ≡ Some bytes → IsPlaced group key
 
 -- the blocks of a chain, in order

@@ -26,6 +26,7 @@ use Rattle.table_images.specs.Chains.{ChainsHold}
 use Rattle.table_images.specs.KnownFiles.{KnownFiles}
 use Rattle.table_images.specs.LogTexts.{HasFile, WholeBlocks, bytes_of_blocks}
 use Rattle.table_images.specs.Numbers.{NumbersBounded}
+use Rattle.table_images.specs.Properties.{PropertiesFile}
 use Rattle.table_images.specs.Runs.{log_in_use}
 use Rattle.table_images.specs.Tiles.{TilesHold}
 use Rattle.table_images.specs.Timeline.{TimelineFiles}
@@ -65,8 +66,8 @@ Counts t i = (i.state ≡ state.Completed) ⊎ (((job : Job) × (i.owner ≡ Som
 pub record IsOpenLog (image : FileMap) (A : Table) (H : History) (s : Target) : Type 0 where
   pub named : IsNamed (log_in_use A H s)
   pub bytes : List ℕ
-  pub there : get image (name_of A.name (log_in_use A H s)) ≡ Some bytes
-  pub known : bytes_of A H (name_of A.name (log_in_use A H s)) ≡ bytes
+  pub there : get image (name_of A.props.name (log_in_use A H s)) ≡ Some bytes
+  pub known : bytes_of A H (name_of A.props.name (log_in_use A H s)) ≡ bytes
   pub blocks : List Block
   pub fit : AllByRecursion Fits blocks
   pub whole : bytes ≡ bytes_of_blocks blocks
@@ -91,6 +92,7 @@ VersionsRise image A H =
 -- ---- all of it
 
 pub record Kept (A : Table) (image : FileMap) (H : History) : Type 0 where
+  pub properties : PropertiesFile image (after_history A H)
   pub timeline : TimelineFiles image (after_history A H)
   pub whole : WholeBlocks image (after_history A H)
   pub tiles : TilesHold (after_history A H)

@@ -5,6 +5,7 @@ pub mod Kept
 pub mod KnownFiles
 pub mod LogTexts
 pub mod Numbers
+pub mod Properties
 pub mod Runs
 pub mod Stands
 pub mod StoreRuns

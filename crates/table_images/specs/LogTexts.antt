@@ -51,7 +51,7 @@ blocks_in bytes = first_blocks (length bytes) bytes
 -- the file is there, with these bytes
 pub record HasFile (image : FileMap) (A : Table) (of : FileName) (bytes : List ℕ) : Type 0 where
   pub named : IsNamed of
-  pub there : get image (name_of A.name of) ≡ Some bytes
+  pub there : get image (name_of A.props.name of) ≡ Some bytes
 
 -- each log is such a text
 unfoldable pub WholeBlocks : FileMap → Table → Type 0

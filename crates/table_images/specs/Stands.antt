@@ -15,11 +15,13 @@ use Rattle.table_images.specs.Chains.{ChainsHold, IsCompleted}
 use Rattle.table_images.specs.KnownFiles.{KnownFiles}
 use Rattle.table_images.specs.LogTexts.{HasFile, WholeBlocks}
 use Rattle.table_images.specs.Numbers.{NumbersBounded}
+use Rattle.table_images.specs.Properties.{PropertiesFile}
 use Rattle.table_images.specs.Tiles.{TilesHold}
 use Rattle.table_images.specs.Timeline.{TimelineFiles}
 
 -- The files of an image stand for a table whose session has tried to make so many names.
 pub record StandsFor (image : FileMap) (A : Table) (tries : ℕ) : Type 0 where
+  pub properties : PropertiesFile image A
   pub timeline : TimelineFiles image A
   pub whole : WholeBlocks image A
   pub tiles : TilesHold A
@@ -42,7 +44,7 @@ Knows (known ∷ more) of = (known.file ≡ of) ⊎ Knows more of
 abbrev pub IsKnownOnce : Table → List KnownFile → Type 0
 IsKnownOnce A [] = Unit {0}
 IsKnownOnce A (known ∷ more) =
-    (known.name ≡ name_of A.name known.file) × AllByRecursion (λ other. known.name ≢ other.name) more
+    (known.name ≡ name_of A.props.name known.file) × AllByRecursion (λ other. known.name ≢ other.name) more
     × IsKnownOnce A more
 
 -- Nobody owns an instant, no time in the names of the timeline is above the last one, and the base and log files that

@@ -28,7 +28,7 @@ HasReached (Some i) action s = (i.action ≡ action) × (has_reached i.state s �
 
 -- the name of the file that marks a state
 abbrev pub timeline_name : Table → ℕ → Action → State → List ℕ
-timeline_name A t action s = name_of A.name (file.Instant t action s)
+timeline_name A t action s = name_of A.props.name (file.Instant t action s)
 
 -- A file is there, and reads as what an instant has to say in this state. So far an instant is a deltacommit: a file of
 -- another action reads as nothing that one says.
@@ -39,7 +39,7 @@ ReadsAs table (Some i) action s file = IsSomeAnd file (λ bytes. meta_of table a
 -- the file that marks a state of an instant is there, with its metadata, exactly where the instant has reached that state
 pub record IsMarked (image : FileMap) (A : Table) (t : ℕ) (action : Action) (s : State) : Type 0 where
   pub there : HasReached (instant_at A.instants t) action s
-      → ReadsAs A.name (instant_at A.instants t) action s (get image (timeline_name A t action s))
+      → ReadsAs A.props.name (instant_at A.instants t) action s (get image (timeline_name A t action s))
   pub only : (bytes : List ℕ) → get image (timeline_name A t action s) ≡ Some bytes
       → HasReached (instant_at A.instants t) action s
 

@@ -1,5 +1,5 @@
 // Laws of images, over the definitions of specs/. The functions do nothing: their clauses are the laws.
-ghost use Rattle.std.specs.Prelude.{◌≡◌, ◌≢◌, ℕ, ◌+◌, ◌≤◌, List, [], ◌∷◌, ◌++◌, length, Some, None};
+ghost use Rattle.std.specs.Prelude.{◌≡◌, ◌≢◌, ℕ, ◌+◌, ◌≤◌, List, [], ◌∷◌, ◌++◌, length, Some, None, Ok};
 ghost use Rattle.std.specs.FinMap.{empty, get};
 ghost use Rattle.hudi_base.specs.Files.{FileMap, IsImage, Told, content, after, changed, changed_all};
 ghost use Rattle.hudi_base.specs.Store.{IsLeftBy, Lacks};
@@ -29,10 +29,12 @@ ghost use Rattle.table_images.specs.Chains.{Chain, IsChain};
 ghost use Rattle.table_images.specs.Frames.{name_of_operation};
 ghost use Rattle.table_images.specs.Kept.{Kept};
 ghost use Rattle.table_images.specs.LogTexts.{IsLogOf, blocks_in};
+ghost use Rattle.table_images.specs.Properties.{properties_name};
 ghost use Rattle.table_images.specs.Runs.{Did, MayCome, Run, IsRun, NamesFit, files_after, history_of, log_in_use, operations_of};
 ghost use Rattle.table_images.specs.Stands.{StandsAfter, StandsFor, IsJustOpened, IsListing, IsPieceThere};
 ghost use Rattle.table_images.specs.StoreRuns.{IsRunOn};
 ghost use Rattle.table_images.specs.Stops.{KeepsAll, IsAtStop};
+ghost use Rattle.table_props.specs.PropsTexts.{Told as Properties, read_props};
 
 use table_history::Work;
 
@@ -42,8 +44,8 @@ pub fn operations_leave_other_files()
     ensures files { (files : FileMap) (operation : Operation) (name : List ℕ) → name ≢ name_of_operation operation
         → get (changed files operation) name ≡ get files name }
     ensures groups { (A : Table) (image : FileMap) (operation : Operation) (of : FileName) (group : GroupRef)
-        (chain : Chain) → IsNamed of → name_of_operation operation ≡ name_of A.name of → group_of_file of ≢ Some group
-        → IsChain image A group chain → IsChain (changed image operation) A group chain }
+        (chain : Chain) → IsNamed of → name_of_operation operation ≡ name_of A.props.name of
+        → group_of_file of ≢ Some group → IsChain image A group chain → IsChain (changed image operation) A group chain }
 {}
 
 /// A log's text is the text of one list of blocks, and a group has one chain.
@@ -53,10 +55,12 @@ pub fn texts_and_chains_are_one()
         → IsChain image A group chain → IsChain image A group other → chain ≡ other }
 {}
 
-/// No files stand for a table without instants, which was just opened.
-pub fn no_files_are_a_fresh_table()
-    ensures stands { (name : List ℕ) (buckets : ℕ) → IsBuckets buckets → StandsFor empty (fresh name buckets) 0 }
-    ensures opened { (name : List ℕ) (buckets : ℕ) → IsJustOpened empty (fresh name buckets) }
+/// A file of properties alone stands for a table without instants that has these, and was just opened.
+pub fn properties_are_a_fresh_table()
+    ensures stands { (props : Properties) (bytes : List ℕ) → IsBuckets props.buckets → read_props bytes ≡ Ok props
+        → StandsFor (changed empty (Create (properties_name (fresh props)) bytes)) (fresh props) 0 }
+    ensures opened { (props : Properties) (bytes : List ℕ)
+        → IsJustOpened (changed empty (Create (properties_name (fresh props)) bytes)) (fresh props) }
 {}
 
 /// Where the files of an image stand for a table, also in the middle of a session, they stand for the table that is
@@ -119,7 +123,7 @@ pub fn no_file_is_damaged<W: Work>()
     ensures ends_at_known { (A : Table) (files : FileMap) (R : Run)
         → HoldsBlocks W.holds → StandsFor files A 0 → IsJustOpened files A → IsRun (work_of W.asks W.holds) A files R
         → (s : Target) → IsNamed (log_in_use A (history_of R) s)
-        → length (content (files_after files R) (name_of A.name (log_in_use A (history_of R) s)))
+        → length (content (files_after files R) (name_of A.props.name (log_in_use A (history_of R) s)))
         ≡ known_length A (history_of R) s (version_in_use A (history_of R) s) }
 {}
 

@@ -11,6 +11,6 @@
 mod laws;
 
 pub use laws::{
-    every_image_stands, images_can_be_opened, no_file_is_damaged, no_files_are_a_fresh_table,
-    operations_leave_other_files, steps_keep_images, stores_tell_runs, texts_and_chains_are_one,
+    every_image_stands, images_can_be_opened, no_file_is_damaged, operations_leave_other_files,
+    properties_are_a_fresh_table, steps_keep_images, stores_tell_runs, texts_and_chains_are_one,
 };

@@ -4,6 +4,7 @@ ghost use Rattle.hudi_base.specs.declared.value.Value.{Value};
 ghost use Rattle.payload_merge.specs.declared.row.Row.{Row};
 ghost use Rattle.table_core.specs.declared.job_reply.RowCause.{RowCause};
 ghost use Rattle.table_jobs.specs.NewRows.{AnswersNewRow, IsNewRow};
+ghost use Rattle.table_props.specs.PropsTexts.{Told as Properties};
 
 use hudi_base::{Bytes, Name, Value};
 use payload_merge::{Row, RowCodec, RowError};
@@ -12,9 +13,13 @@ use std::alloc::Global;
 /// How the rows of one table are written, with what else its blocks need of it: the table's name, which is in the ids
 /// of its file groups, and the text that its data blocks have in the place of a schema.
 ///
+/// `is_of` says whether it is the codec of a table with these properties; the name is theirs then.
+///
 /// `fits` says which values are of the table's schema, and `row_made` which row such a value makes, or why it makes none.
 /// Nothing in that row is of an instant: a writer gives it its commit and its place.
 pub trait TableCodec: RowCodec {
+    ghost is_of: { Self → Properties → Type 0 };
+
     ghost table_name: { Self → List ℕ };
 
     ghost schema: { Self → List ℕ };
@@ -49,4 +54,6 @@ pub trait TableCodec: RowCodec {
     // A row that is made can be written, by any instant and at any place.
     ghost new_rows_are_own: { (codec : Self) (value : Value) → fits codec value →
         IfOk (row_made codec value) (IsNewRow (Self.own_row codec)) };
+
+    ghost name_is_told: { (codec : Self) (props : Properties) → is_of codec props → table_name codec ≡ props.name };
 }

@@ -1,6 +1,5 @@
 -- Writes that are lent from a block.
-use Rattle.std.proofs.Common.{◌≡◌, ◌++◌, ◌∷◌, [], ◌==◌, ℕ, Bool, List, Option, Some, None, Ok, length, map, true, OnSome, sym, ap, ◌∙◌, arith}
-use Rattle.std.proofs.lemmas.Bool.Decides.{nat_tests}
+use Rattle.std.proofs.Common.{◌≡◌, ◌++◌, ℕ, List, Option, Some, None, Ok, map, OnSome, sym, ap, ◌∙◌}
 use Rattle.file_names.specs.FileId.{file_id}
 use Rattle.hudi_base.specs.declared.file_group.GroupRef.{GroupRef}
 use Rattle.log_block.specs.declared.block.Block.{Block}
@@ -25,11 +24,3 @@ lends_data reading group t schema content text id block old new more is text_is 
 pub on_some : {A : Type 0} (P Q : Type 0) (o : Option A) → (P → Q) → OnSome o P → OnSome o Q
 on_some P Q None f h = h
 on_some P Q (Some x) f h = f h
-
-zero_is : (n : ℕ) → (n == 0) ≡ true → n ≡ 0
-zero_is n h = grind (arith, nat_tests)
-
--- a list of one
-pub no_others : {A : Type 0} (all : List A) (x : A) (xs : List A) (b : Bool) → all ≡ x ∷ xs → b ≡ (length xs == 0) → b ≡ true → all ≡ x ∷ []
-no_others all x [] b is tested empty = is
-no_others all x (y ∷ xs) b is tested empty = absurd (let e = zero_is (length (y ∷ xs)) (sym tested ∙ empty) in omega (arith, e))

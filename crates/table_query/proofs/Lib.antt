@@ -3,7 +3,11 @@ pub mod Following
 pub mod Pieces
 pub mod Leaving
 pub mod LentWrites
+pub mod Puts
 pub mod NextFiles
 pub mod Stops
 pub mod Same
+pub mod InTurn
 pub mod Replies
+pub mod Ends
+pub mod OwnRows

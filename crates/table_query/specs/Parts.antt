@@ -5,6 +5,7 @@ use Rattle.payload_merge.specs.Fold.{RowTable, rows_of, table_after_all}
 use Rattle.payload_merge.specs.RowRefs.{write_in}
 use Rattle.payload_merge.specs.declared.row.Row.{Row}
 use Rattle.payload_merge.specs.declared.row.Write.{Write}
+use Rattle.payload_merge.specs.declared.row.Write.TheVariants.{Put, Del}
 use Rattle.payload_merge.specs.declared.row_error.RowError.{RowError}
 use Rattle.payload_merge.specs.declared.row_error.RowError.TheVariants.{BadContent, Memory}
 use Rattle.payload_merge.specs.declared.row_refs.WriteRef.{WriteRef}
@@ -54,11 +55,6 @@ abbrev pub GivesLog : Result PartLog JobReply → Result (List PartLog) Damage �
 GivesLog (Ok log) found = found ≡ Ok (log ∷ [])
 GivesLog (Err error) found = IsErrorOf error found
 
--- a view's rows, as a table
-abbrev pub GivesTable : Result RowTable JobReply → Result (List Write) Damage → Type 0
-GivesTable (Ok rows) found = Folds found empty rows
-GivesTable (Err error) found = IsErrorOf error found
-
 -- the rows that the writes found leave where there was none, in the order of their keys
 abbrev pub LeavesRows : {E : Type 0} → Result (List Write) E → List Row → Type 0
 LeavesRows (Ok writes) rows = rows ≡ rows_of (table_after_all empty writes)
@@ -67,6 +63,12 @@ LeavesRows (Err error) rows = ⊥
 abbrev pub GivesRows : Result (List Row) JobReply → Result (List Write) Damage → Type 0
 GivesRows (Ok rows) found = LeavesRows found rows
 GivesRows (Err error) found = IsErrorOf error found
+
+-- there are no deletes
+abbrev pub ArePuts : List Write → Type 0
+ArePuts [] = Unit {0}
+ArePuts (Put row ∷ writes) = ArePuts writes
+ArePuts (Del partition key rank ∷ writes) = ⊥
 
 -- what borrowed writes to a partition leave where there was no row
 abbrev pub lent_table : List ℕ → List WriteRef → RowTable

@@ -1,6 +1,5 @@
 -- What a query has pinned and read, by its own entries, of which the last comes first.
-use Rattle.std.specs.Prelude.{◌≡◌, false, ℕ, ◌==◌, if◌then◌else◌, List, [], ◌∷◌, ◌++◌, length, Option, Some, None}
-use Rattle.table_history.specs.Pins.{part_at}
+use Rattle.std.specs.Prelude.{◌≡◌, ◌<◌, ◌+◌, false, ℕ, ◌==◌, if◌then◌else◌, List, [], ◌∷◌, ◌++◌, length, slice_get, Option, Some, None}
 use Rattle.table_history.specs.declared.entry.Entry.{Entry}
 use Rattle.table_history.specs.declared.reply.Reply.{Reply}
 use Rattle.table_history.specs.declared.reply.Reply.TheVariants.{Piece, Pinned}
@@ -39,6 +38,16 @@ abbrev pub PinsAt : Option ℕ → List Entry → Type 0
 PinsAt at [] = Unit {0}
 PinsAt at (e ∷ es) = IsQueryStep at e.step × PinsAt at es
 
--- each file of the view was read to its end
-abbrev pub IsReadWhole : View → (ℕ → List ℕ) → Type 0
-IsReadWhole view bytes = (file : ℕ) (part : Part) → part_at view file ≡ Some part → length (bytes file) ≡ part.length
+-- each file of these parts was read to its end, which are numbered from here on
+abbrev pub IsReadWhole : (ℕ → List ℕ) → ℕ → List Part → Type 0
+IsReadWhole bytes first parts = (k : ℕ) (part : Part) → slice_get parts k ≡ Some part → length (bytes (first + k)) ≡ part.length
+
+-- a step reads no file from this number on
+abbrev pub IsBefore : ℕ → Step → Type 0
+IsBefore number (Read from file offset len) = file < number
+IsBefore number _ = Unit {0}
+
+-- none of a job's own entries does, answered or failed
+abbrev pub ReadsBefore : ℕ → List Entry → Type 0
+ReadsBefore number [] = Unit {0}
+ReadsBefore number (e ∷ es) = IsBefore number e.step × ReadsBefore number es

@@ -1,11 +1,10 @@
-// The fold of what a view's files hold.
-ghost use Rattle.std.specs.Prelude.{◌≡◌, ◌≤◌, ◌+◌, length, OnOk};
-ghost use Rattle.std.specs.List.{flat_map};
+// The fold of what a group's files hold.
+ghost use Rattle.std.specs.Prelude.{◌≡◌, ◌≤◌, length, OnOk};
 ghost use Rattle.file_names.specs.FileId.{file_id};
 ghost use Rattle.payload_merge.specs.Fold.{table_after_all};
 ghost use Rattle.payload_merge.specs.RowCodec.{AnswersContent};
-ghost use Rattle.table_query.specs.GroupReading.{block_gives, block_writes, counts, group_writes, in_part, log_writes, logs_writes, view_writes};
-ghost use Rattle.table_query.specs.Parts.{GivesBlock, GivesFold, GivesTable, text_at};
+ghost use Rattle.table_query.specs.GroupReading.{block_gives, block_writes, counts, group_writes, in_part, log_writes, logs_writes};
+ghost use Rattle.table_query.specs.Parts.{GivesBlock, GivesFold, text_at};
 
 use crate::logs::{PartLog, damaged, logs_of, voided};
 use crate::times::{has_time, set_of};
@@ -16,7 +15,7 @@ use payload_merge::{MergeError, RowError, RowMap, Writes};
 use std::alloc::Global;
 use std::collections::BTreeSet;
 use table_core::JobReply;
-use table_history::{Cause, GroupParts, View};
+use table_history::{Cause, GroupParts};
 use table_jobs::{TableCodec, file_id_of};
 
 // Folds writes, the first first.
@@ -169,22 +168,21 @@ fn fold_logs<K: TableCodec>(
     Ok(())
 }
 
-// Folds what the files of a group hold, which are numbered from `first` on.
-fn fold_group<K: TableCodec>(
+/// Folds what the files of a group hold, whose bytes these are.
+pub(crate) fn fold_group<K: TableCodec>(
     alloc: Global,
     codec: &K,
     completed: &BTreeSet<InstantTime>,
     parts: &GroupParts,
     texts: &[Bytes],
-    first: usize,
     rows: &mut RowMap,
 ) -> Result<(), JobReply>
-    requires { first + length parts.now.parts ≤ length texts.now }
+    requires { length parts.now.parts ≤ length texts.now }
     ensures { GivesFold result
-        (group_writes (record { rows = K.block_rows codec.now; table = K.table_name codec.now }) completed.now.keys (text_at texts.now) first parts.now)
+        (group_writes (record { rows = K.block_rows codec.now; table = K.table_name codec.now }) completed.now.keys (text_at texts.now) 0 parts.now)
         rows.old rows.new }
 {
-    let logs = match logs_of(alloc, parts.parts.as_slice(), texts, first) {
+    let logs = match logs_of(alloc, parts.parts.as_slice(), texts) {
         Ok(logs) => logs,
         Err(reply) => return Err(reply),
     };
@@ -207,29 +205,4 @@ fn fold_group<K: TableCodec>(
         logs.as_slice(),
         rows,
     )
-}
-
-/// The rows that a view's files leave, whose bytes these are.
-pub(crate) fn fold_view<K: TableCodec>(
-    alloc: Global,
-    codec: &K,
-    view: &View,
-    texts: &[Bytes],
-) -> Result<RowMap, JobReply>
-    requires { length (flat_map (λ g. g.parts) view.now.groups) ≤ length texts.now }
-    ensures { GivesTable result (view_writes (record { rows = K.block_rows codec.now; table = K.table_name codec.now }) view.now.completed (text_at texts.now) view.now.groups) }
-{
-    let Ok(completed) = set_of(alloc, view.completed.as_slice()) else {
-        return Err(JobReply::Memory);
-    };
-    let mut rows = RowMap::new(alloc);
-    let mut first: usize = 0;
-    for group in view.groups.as_slice() {
-        match fold_group(alloc, codec, &completed, group, texts, first, &mut rows) {
-            Ok(()) => {}
-            Err(reply) => return Err(reply),
-        }
-        first += group.parts.len();
-    }
-    Ok(rows)
 }

@@ -1,10 +1,9 @@
-// The fold of writes that are lent from the blocks of a view's one group.
-ghost use Rattle.std.specs.Prelude.{◌≡◌, ◌≤◌, ◌++◌, length, map, IfSome, OnSome};
-ghost use Rattle.std.specs.List.{flat_map};
+// The fold of writes that are lent from the blocks of a group.
+ghost use Rattle.std.specs.Prelude.{◌≡◌, ◌≤◌, ◌++◌, length, map, IfOk, IfSome, OnSome};
 ghost use Rattle.file_names.specs.FileId.{file_id};
 ghost use Rattle.payload_merge.specs.RowRefs.{row_in};
-ghost use Rattle.table_query.specs.GroupReading.{block_gives, block_writes, counts, group_writes, in_part, log_writes, logs_writes, view_writes};
-ghost use Rattle.table_query.specs.Parts.{Folds, LeavesRows, lent_table, text_at};
+ghost use Rattle.table_query.specs.GroupReading.{block_gives, block_writes, counts, group_writes, in_part, log_writes, logs_writes};
+ghost use Rattle.table_query.specs.Parts.{ArePuts, Folds, LeavesRows, lent_table, text_at};
 
 use crate::folding::counts;
 use crate::logs::{PartLog, logs_of, voided};
@@ -14,7 +13,7 @@ use log_block::Block;
 use payload_merge::{Row, RowRef, Rows, WriteRef, fold_writes};
 use std::alloc::Global;
 use std::collections::BTreeSet;
-use table_history::{GroupParts, View};
+use table_history::GroupParts;
 use table_jobs::{TableCodec, file_id_of};
 
 // Adds writes, unless memory is wanting.
@@ -39,7 +38,8 @@ fn lend_block<'a, K: TableCodec>(
     writes: &mut Vec<WriteRef<'a>>,
 ) -> Option<()>
     requires { id.now ≡ file_id (K.table_name codec.now) group.now }
-    ensures { OnSome result (Folds (block_writes (record { rows = K.block_rows codec.now; table = K.table_name codec.now }) group.now block.now)
+    ensures puts { OnSome result (IfOk (block_writes (record { rows = K.block_rows codec.now; table = K.table_name codec.now }) group.now block.now) ArePuts) }
+    ensures folds { OnSome result (Folds (block_writes (record { rows = K.block_rows codec.now; table = K.table_name codec.now }) group.now block.now)
         (lent_table group.now.partition writes.old.items) (lent_table group.now.partition writes.new.items)) }
 {
     match block {
@@ -69,7 +69,9 @@ fn lend_counted<'a, K: TableCodec>(
     writes: &mut Vec<WriteRef<'a>>,
 ) -> Option<()>
     requires { id.now ≡ file_id (K.table_name codec.now) group.now }
-    ensures { OnSome result (Folds
+    ensures puts { OnSome result (IfOk
+        (block_gives (record { rows = K.block_rows codec.now; table = K.table_name codec.now }) group.now (counts completed.now.keys void.now.keys) number block.now) ArePuts) }
+    ensures folds { OnSome result (Folds
         (block_gives (record { rows = K.block_rows codec.now; table = K.table_name codec.now }) group.now (counts completed.now.keys void.now.keys) number block.now)
         (lent_table group.now.partition writes.old.items) (lent_table group.now.partition writes.new.items)) }
 {
@@ -91,7 +93,9 @@ fn lend_log<'a, K: TableCodec>(
     writes: &mut Vec<WriteRef<'a>>,
 ) -> Option<()>
     requires { id.now ≡ file_id (K.table_name codec.now) group.now }
-    ensures { OnSome result (Folds (in_part log.now.name
+    ensures puts { OnSome result (IfOk (in_part log.now.name
+        (log_writes (record { rows = K.block_rows codec.now; table = K.table_name codec.now }) group.now (counts completed.now.keys void.now.keys) log.now.blocks)) ArePuts) }
+    ensures folds { OnSome result (Folds (in_part log.now.name
         (log_writes (record { rows = K.block_rows codec.now; table = K.table_name codec.now }) group.now (counts completed.now.keys void.now.keys) log.now.blocks))
         (lent_table group.now.partition writes.old.items) (lent_table group.now.partition writes.new.items)) }
 {
@@ -117,7 +121,9 @@ fn lend_logs<'a, K: TableCodec>(
     writes: &mut Vec<WriteRef<'a>>,
 ) -> Option<()>
     requires { id.now ≡ file_id (K.table_name codec.now) group.now }
-    ensures { OnSome result (Folds
+    ensures puts { OnSome result (IfOk
+        (logs_writes (record { rows = K.block_rows codec.now; table = K.table_name codec.now }) group.now (counts completed.now.keys void.now.keys) logs.now) ArePuts) }
+    ensures folds { OnSome result (Folds
         (logs_writes (record { rows = K.block_rows codec.now; table = K.table_name codec.now }) group.now (counts completed.now.keys void.now.keys) logs.now)
         (lent_table group.now.partition writes.old.items) (lent_table group.now.partition writes.new.items)) }
 {
@@ -171,7 +177,9 @@ fn rows_of_logs<K: TableCodec>(
     void: &BTreeSet<InstantTime>,
     logs: &[PartLog],
 ) -> Option<Rows>
-    ensures { IfSome result (LeavesRows
+    ensures puts { OnSome result (IfOk
+        (logs_writes (record { rows = K.block_rows codec.now; table = K.table_name codec.now }) group.now (counts completed.now.keys void.now.keys) logs.now) ArePuts) }
+    ensures rows { IfSome result (LeavesRows
         (logs_writes (record { rows = K.block_rows codec.now; table = K.table_name codec.now }) group.now (counts completed.now.keys void.now.keys) logs.now)) }
 {
     let Ok(id) = file_id_of(alloc, codec, group) else {
@@ -185,8 +193,9 @@ fn rows_of_logs<K: TableCodec>(
     }
 }
 
-// The rows that a group's files leave, which are the first ones.
-fn rows_of_group<K: TableCodec>(
+/// The rows that a group's files leave, whose bytes these are, where the codec lends what the blocks hold and they
+/// delete nothing. None where a block can't be lent or read, or memory is wanting.
+pub(crate) fn lent_rows<K: TableCodec>(
     alloc: Global,
     codec: &K,
     completed: &BTreeSet<InstantTime>,
@@ -194,10 +203,12 @@ fn rows_of_group<K: TableCodec>(
     texts: &[Bytes],
 ) -> Option<Rows>
     requires { length parts.now.parts ≤ length texts.now }
-    ensures { IfSome result (LeavesRows
+    ensures puts { OnSome result (IfOk
+        (group_writes (record { rows = K.block_rows codec.now; table = K.table_name codec.now }) completed.now.keys (text_at texts.now) 0 parts.now) ArePuts) }
+    ensures rows { IfSome result (LeavesRows
         (group_writes (record { rows = K.block_rows codec.now; table = K.table_name codec.now }) completed.now.keys (text_at texts.now) 0 parts.now)) }
 {
-    let Ok(logs) = logs_of(alloc, parts.parts.as_slice(), texts, 0) else {
+    let Ok(logs) = logs_of(alloc, parts.parts.as_slice(), texts) else {
         return None;
     };
     let Ok(targets) = voided(alloc, logs.as_slice()) else {
@@ -214,26 +225,4 @@ fn rows_of_group<K: TableCodec>(
         &void,
         logs.as_slice(),
     )
-}
-
-/// The rows that a view's files leave, where it has one group and the codec lends what the blocks hold. None where it
-/// has several, or a block can't be lent or read, or memory is wanting.
-pub(crate) fn lent_rows<K: TableCodec>(
-    alloc: Global,
-    codec: &K,
-    view: &View,
-    texts: &[Bytes],
-) -> Option<Rows>
-    requires { length (flat_map (λ g. g.parts) view.now.groups) ≤ length texts.now }
-    ensures { IfSome result (LeavesRows
-        (view_writes (record { rows = K.block_rows codec.now; table = K.table_name codec.now }) view.now.completed (text_at texts.now) view.now.groups)) }
-{
-    let (only, others) = view.groups.as_slice().split_first()?;
-    if !others.is_empty() {
-        return None;
-    }
-    let Ok(completed) = set_of(alloc, view.completed.as_slice()) else {
-        return None;
-    };
-    rows_of_group(alloc, codec, &completed, only, texts)
 }

@@ -7,6 +7,7 @@
 #![tactic(auto)]
 
 mod folding;
+mod groups;
 mod lending;
 mod logs;
 mod reading;

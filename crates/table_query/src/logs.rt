@@ -1,5 +1,5 @@
 // The logs of a group.
-ghost use Rattle.std.specs.Prelude.{◌≡◌, ◌≤◌, ◌+◌, ◌++◌, length, IfOk, OnOk};
+ghost use Rattle.std.specs.Prelude.{◌≡◌, ◌≤◌, ◌++◌, length, IfOk, OnOk};
 ghost use Rattle.std.specs.List.{flat_map};
 ghost use Rattle.table_query.specs.GroupReading.{log_of, logs_of, target_of, voided};
 ghost use Rattle.table_query.specs.Parts.{GivesLog, GivesLogs, IsStop, text_at};
@@ -48,19 +48,18 @@ fn log_of(alloc: Global, part: &Part, bytes: &Bytes) -> Result<PartLog, JobReply
     }
 }
 
-/// The logs of parts, whose files are numbered from `first` on.
+/// The logs of parts, whose bytes these are.
 pub(crate) fn logs_of(
     alloc: Global,
     parts: &[Part],
     texts: &[Bytes],
-    first: usize,
 ) -> Result<Sequence<PartLog>, JobReply>
-    requires { first + length parts.now ≤ length texts.now }
-    ensures { GivesLogs result (logs_of (text_at texts.now) first parts.now) }
+    requires { length parts.now ≤ length texts.now }
+    ensures { GivesLogs result (logs_of (text_at texts.now) 0 parts.now) }
 {
     let mut logs = Sequence::new(alloc);
     for (i, part) in parts.iter().enumerate() {
-        let log = match log_of(alloc, part, &texts[first + i]) {
+        let log = match log_of(alloc, part, &texts[i]) {
             Ok(log) => log,
             Err(reply) => return Err(reply),
         };

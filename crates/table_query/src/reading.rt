@@ -1,12 +1,11 @@
 // Reading the files of a view.
-ghost use Rattle.std.specs.Prelude.{◌≡◌, ℕ, Option, ◌<◌, ◌++◌, [], None, length, drop, map, IfOk, OnOk, MatchResult};
+ghost use Rattle.std.specs.Prelude.{◌≡◌, ◌<◌, ◌≤◌, ◌+◌, ◌++◌, None, length, map, IfOk, OnOk, MatchResult};
 ghost use Rattle.std.specs.List.{flat_map};
-ghost use Rattle.table_history.specs.JobLaw.{Allows, GoesOn, Reads, entries_of, phase};
+ghost use Rattle.table_history.specs.JobLaw.{Allows, GoesOn, entries_of, phase};
 ghost use Rattle.table_history.specs.declared.step.Reader.TheVariants.{Pin};
 ghost use Rattle.table_history.specs.declared.step.Step.TheVariants.{Read};
 ghost use Rattle.table_jobs.specs.Replies.{told};
-ghost use Rattle.table_query.specs.ReadBytes.{PinsAt, pinned};
-ghost use Rattle.table_query.specs.Reading.{GotPiece, HasFailed, HasRead, HasReadNext, HasReadUpTo, IsNext, LeavesOthers, still_to_read};
+ghost use Rattle.table_query.specs.Reading.{GotPiece, HasFailed, HasRead, HasReadFiles, HasReadNext, HasReadUpTo, IsNext, LeavesEarlier, LeavesOthers};
 
 use hudi_base::Bytes;
 use std::alloc::{AllocError, Global};
@@ -98,13 +97,12 @@ fn read_next<T: Steps>(
     number: usize,
 ) -> Result<Bytes, JobReply>
     requires within { number < length sizes.now }
-    requires so_far { phase (entries_of (T.mine steps.old)) ≡ Reads pin (still_to_read number (drop number sizes.now)) 0 }
-    requires untold { told (entries_of (T.mine steps.old)) ≡ None }
+    requires so_far { HasReadUpTo pin number sizes.now (entries_of (T.mine steps.old)) }
     ensures job { T.job steps.new ≡ T.job steps.old }
     ensures seen { GoesOn (T.seen steps.old) (T.seen steps.new) }
     ensures later { T.later steps.old steps.new }
     ensures leaves { LeavesOthers number (entries_of (T.mine steps.old)) (entries_of (T.mine steps.new)) }
-    ensures read { MatchResult result (λ bytes. HasReadNext pin number sizes.now (entries_of (T.mine steps.old)) (entries_of (T.mine steps.new)) bytes)
+    ensures read { MatchResult result (λ bytes. HasReadNext pin number sizes.now (entries_of (T.mine steps.new)) bytes)
         (λ reply. HasFailed pin (entries_of (T.mine steps.new)) reply) }
 {
     let size = sizes[number];
@@ -117,26 +115,28 @@ fn read_next<T: Steps>(
     read_file(alloc, steps, pin, file, size)
 }
 
-/// Reads all files of a view, which have these sizes.
-pub(crate) fn read_all<T: Steps>(
+/// Reads so many files of a view, from the first number on, where those before it are read. The view's files have these
+/// sizes.
+pub(crate) fn read_files<T: Steps>(
     alloc: Global,
     steps: &mut T,
     pin: u64,
     sizes: &[u64],
+    first: usize,
+    count: usize,
 ) -> Result<Vec<Bytes>, JobReply>
-    requires so_far { HasReadUpTo pin 0 sizes.now (entries_of (T.mine steps.old)) [] }
+    requires within { first + count ≤ length sizes.now }
+    requires so_far { HasReadUpTo pin first sizes.now (entries_of (T.mine steps.old)) }
     ensures job { T.job steps.new ≡ T.job steps.old }
     ensures seen { GoesOn (T.seen steps.old) (T.seen steps.new) }
     ensures later { T.later steps.old steps.new }
-    ensures pins { (at : Option ℕ) → PinsAt at (entries_of (T.mine steps.old)) → PinsAt at (entries_of (T.mine steps.new)) }
-    ensures view { pinned (entries_of (T.mine steps.new)) ≡ pinned (entries_of (T.mine steps.old)) }
-    ensures read { MatchResult result
-        (λ texts. HasReadUpTo pin (length sizes.now) sizes.now (entries_of (T.mine steps.new)) texts.items)
+    ensures leaves { LeavesEarlier first (first + count) (entries_of (T.mine steps.old)) (entries_of (T.mine steps.new)) }
+    ensures read { MatchResult result (λ texts. HasReadFiles pin first count sizes.now (entries_of (T.mine steps.new)) texts.items)
         (λ reply. HasFailed pin (entries_of (T.mine steps.new)) reply) }
 {
     let mut texts = Vec::new(alloc);
-    for number in 0..sizes.len() {
-        let text = match read_next(alloc, steps, pin, sizes, number) {
+    for i in 0..count {
+        let text = match read_next(alloc, steps, pin, sizes, first + i) {
             Ok(text) => text,
             Err(reply) => return Err(reply),
         };

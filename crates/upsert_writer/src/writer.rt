@@ -307,6 +307,8 @@ pub fn write_batch<T: Steps, K: TableCodec, G: Gate>(
 ) -> JobReply
     // The job has made no entry yet.
     requires new { T.mine steps.old ≡ [] }
+    // The codec is that of the table.
+    requires of_the_table { K.is_of codec.now (T.props steps.old) }
     requires fits { BatchFits (K.fits codec.now) batch }
     // The table takes the batch as the job's: the slots that are asked for, and the blocks that may be written of it.
     requires asks { IfOk (batch_writes (record { row = K.row_made codec.now; is_ordered = K.is_ordered codec.now }) batch)

@@ -1,5 +1,5 @@
 use Rattle.std.proofs.Common.{◌≡◌, ◌+◌, ◌-◌, ◌≤◌, ◌++◌, option_map, vec_len}
-use Rattle.job_script.specs.Script.{most_script_bytes}
+use Rattle.script_jobs.specs.Scripts.{most_script_bytes}
 use Rattle.script_run.proofs.input.read_pieces.Given as goal
 
 -- what has come and what is left are what was left at first

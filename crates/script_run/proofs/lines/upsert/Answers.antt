@@ -1,43 +1,54 @@
-use Rattle.std.proofs.Common.{◌≡◌, ◌∙◌, sym, ap, map, subst, List, Result, Ok, IfOk}
-use Rattle.payload_merge.specs.declared.row.Write.{Write}
+use Rattle.std.proofs.Common.{◌≡◌, List, IfOk, sym, subst}
+use Rattle.row_values.specs.RowCells.{IsOwnRow}
+use Rattle.script_jobs.specs.Jobs.{upsert}
+use Rattle.script_jobs.specs.RowViews.{rows_view}
+use Rattle.table_core.specs.declared.job_reply.JobReply.TheVariants as job
 use Rattle.table_history.specs.JobLaw.{entries_of}
 use Rattle.table_history.specs.declared.step.PartitionSlots.{PartitionSlots}
 use Rattle.upsert_writer.specs.Answers.{AnswersBatch}
-use Rattle.upsert_writer.specs.BatchFits.{BatchFits}
-use Rattle.upsert_writer.specs.Batches.{NewWrites, Refusal, batch_writes}
-use Rattle.upsert_writer.specs.Blocks.{BlockForm, HoldsEach}
+use Rattle.upsert_writer.specs.Batches.{batch_writes}
+use Rattle.upsert_writer.specs.Blocks.{HoldsEach}
 use Rattle.upsert_writer.specs.Slots.{AreSlotsOf}
 use Rattle.upsert_writer.specs.declared.batch.Batch.TheVariants.{Puts}
 use Rattle.upsert_writer.specs.declared.batch.PutRow.{PutRow}
-use Rattle.script_run.specs.Lines.{given_row, put_of_input}
-use Rattle.script_run.proofs.Batched.{rows_fit, rows_written}
+use Rattle.upsert_writer.proofs.Refusals.{not_made}
+use Rattle.script_run.specs.Lines.{batch_of, blocks_of, given_rows, new_writes}
+use Rattle.script_run.proofs.Given.{batch_has, given_are, rows_fit}
 use Rattle.script_run.proofs.lines.upsert.Goals as goal
 
 pub write_batch-requires-clause-fits : goal.write_batch-requires-clause-fits
 write_batch-requires-clause-fits g c =
-    let new : NewWrites = record { row = g.K.TableCodec.row_made c.args.codec.now; is_ordered = g.K.TableCodec.is_ordered c.args.codec.now } in
-    let P : List PutRow → Type 0 = λ rows. BatchFits (g.K.TableCodec.fits c.args.codec.now) (Puts rows) in
-    subst P (sym (c.in-Ok.ensures ∙ ap (map given_row) c.as_slice.ensures)) (rows_fit (g.K.TableCodec.fits c.args.codec.now) new c.requires.takes c.args.rows c.requires.sized)
+    rows_fit c.args.codec.now.records.own c.in-Ok.given c.as_slice.result.now (rows_view c.args.rows.now) c.in-Ok.ensures.rows c.as_slice.ensures c.requires.other c.in-Ok.ensures.fit
 
 pub write_batch-requires-clause-asks : goal.write_batch-requires-clause-asks
 write_batch-requires-clause-asks g c =
-    let new : NewWrites = record { row = g.K.TableCodec.row_made c.args.codec.now; is_ordered = g.K.TableCodec.is_ordered c.args.codec.now } in
-    let made : batch_writes new (Puts c.in-Ok.given) ≡ Ok (map put_of_input c.args.rows) =
-    ap (λ (rows : List PutRow). batch_writes new (Puts rows)) (c.in-Ok.ensures ∙ ap (map given_row) c.as_slice.ensures) ∙ rows_written (g.K.TableCodec.fits c.args.codec.now) new c.requires.takes c.args.rows c.requires.sized in
-    subst (λ (r : Result (List Write) Refusal). IfOk r (λ writes. (slots : List PartitionSlots) → AreSlotsOf writes slots → g.T.Work.asks (g.T.Steps.job c.args.steps.now) slots)) (sym made) c.requires.asks
+    let layout = c.args.codec.now.records.own in
+    let items = rows_view c.args.rows.now in
+    let are : c.in-Ok.given ≡ given_rows layout items = given_are layout c.in-Ok.given c.as_slice.result.now items c.in-Ok.ensures.rows c.as_slice.ensures in
+    subst (λ (rows : List PutRow). IfOk (batch_writes (new_writes layout) (Puts rows)) (λ writes. (slots : List PartitionSlots) → AreSlotsOf writes slots → g.T.Work.asks (g.T.Steps.job c.args.steps.now) slots))
+    (sym are) c.requires.asks
 
 pub write_batch-requires-clause-holds : goal.write_batch-requires-clause-holds
 write_batch-requires-clause-holds g c =
-    let new : NewWrites = record { row = g.K.TableCodec.row_made c.args.codec.now; is_ordered = g.K.TableCodec.is_ordered c.args.codec.now } in
-    let form : BlockForm = record { reading = g.K.RowCodec.block_rows c.args.codec.now; table = g.K.TableCodec.table_name c.args.codec.now; schema = g.K.TableCodec.schema c.args.codec.now } in
-    let made : batch_writes new (Puts c.in-Ok.given) ≡ Ok (map put_of_input c.args.rows) =
-    ap (λ (rows : List PutRow). batch_writes new (Puts rows)) (c.in-Ok.ensures ∙ ap (map given_row) c.as_slice.ensures) ∙ rows_written (g.K.TableCodec.fits c.args.codec.now) new c.requires.takes c.args.rows c.requires.sized in
-    subst (λ (r : Result (List Write) Refusal). IfOk r (HoldsEach g.T.Work.holds (g.T.Steps.job c.args.steps.now) form)) (sym made) c.requires.holds
+    let layout = c.args.codec.now.records.own in
+    let items = rows_view c.args.rows.now in
+    let are : c.in-Ok.given ≡ given_rows layout items = given_are layout c.in-Ok.given c.as_slice.result.now items c.in-Ok.ensures.rows c.as_slice.ensures in
+    subst (λ (rows : List PutRow). IfOk (batch_writes (new_writes layout) (Puts rows)) (HoldsEach g.T.Work.holds (g.T.Steps.job c.args.steps.now) (blocks_of layout))) (sym are) c.requires.holds
 
 pub returns-in-Ok-clause-answer : goal.returns-in-Ok-clause-answer
 returns-in-Ok-clause-answer g c =
-    let new : NewWrites = record { row = g.K.TableCodec.row_made c.args.codec.now; is_ordered = g.K.TableCodec.is_ordered c.args.codec.now } in
-    let form : BlockForm = record { reading = g.K.RowCodec.block_rows c.args.codec.now; table = g.K.TableCodec.table_name c.args.codec.now; schema = g.K.TableCodec.schema c.args.codec.now } in
-    let made : batch_writes new (Puts c.in-Ok.given) ≡ Ok (map put_of_input c.args.rows) =
-    ap (λ (rows : List PutRow). batch_writes new (Puts rows)) (c.in-Ok.ensures ∙ ap (map given_row) c.as_slice.ensures) ∙ rows_written (g.K.TableCodec.fits c.args.codec.now) new c.requires.takes c.args.rows c.requires.sized in
-    subst (λ (r : Result (List Write) Refusal). AnswersBatch form r (entries_of (g.T.Steps.mine c.write_batch.new.steps)) c.write_batch.result) made c.write_batch.ensures.answer
+    let layout = c.args.codec.now.records.own in
+    let items = rows_view c.args.rows.now in
+    let are : c.in-Ok.given ≡ given_rows layout items = given_are layout c.in-Ok.given c.as_slice.result.now items c.in-Ok.ensures.rows c.as_slice.ensures in
+    subst (λ (rows : List PutRow). AnswersBatch (blocks_of layout) (batch_writes (new_writes layout) (Puts rows)) (entries_of (g.T.Steps.mine c.write_batch.new.steps)) c.write_batch.result)
+    are c.write_batch.ensures.answer
+
+pub returns-in-Ok-clause-own : goal.returns-in-Ok-clause-own
+returns-in-Ok-clause-own g c =
+    let layout = c.args.codec.now.records.own in
+    batch_has (IsOwnRow layout) (blocks_of layout) (batch_of layout (upsert (rows_view c.args.rows.now))) (entries_of (g.T.Steps.mine c.write_batch.new.steps)) c.write_batch.result (returns-in-Ok-clause-answer g c)
+
+pub returns-in-Err-clause-answer : goal.returns-in-Err-clause-answer
+returns-in-Err-clause-answer g c =
+    let layout = c.args.codec.now.records.own in
+    not_made (blocks_of layout) (batch_of layout (upsert (rows_view c.args.rows.now))) (g.T.Steps.mine c.args.steps.now) job.Memory c.requires.new tt

@@ -1,6 +1,6 @@
 use Rattle.std.proofs.Common.{◌++◌, take, get_or, ℕ, ◌<◌, List, length, ap, sym, ◌∙◌, append_assoc, arith}
 use Rattle.table_history.specs.declared.entry.Mark.{Mark}
-use Rattle.job_script.specs.Marks.{marks_text, mark_text}
+use Rattle.script_texts.specs.Marks.{marks_text, mark_text}
 use Rattle.script_run.proofs.Journals.{journal_begun, marks_text-next, on_err}
 use Rattle.script_run.proofs.printing.put_journal.Goals as goal
 

@@ -1,5 +1,5 @@
 use Rattle.std.proofs.Common.{◌≡◌, ◌++◌, take}
-use Rattle.job_script.specs.Marks.{marks_text}
+use Rattle.script_texts.specs.Marks.{marks_text}
 use Rattle.script_run.proofs.printing.put_journal.Given as goal
 
 -- the lines of the first marks were added

@@ -7,8 +7,8 @@ pub returns : goal.returns
 returns g c =
     let work : Work = record { Asks = g.W.Work.asks; Holds = g.W.Work.holds } in
     record {
-      groups = λ form buckets batch before after job mine t made legal wrote answer. (batch_written work form buckets batch before after job mine t made legal wrote answer).wrote;
+      groups = λ form props batch before after job mine t made legal wrote answer. (batch_written work form props batch before after job mine t made legal wrote answer).wrote;
       wrote = whole_batch work;
-      completed = λ form buckets batch before after job mine t made legal wrote answer. (batch_written work form buckets batch before after job mine t made legal wrote answer).completed;
-      given = λ form buckets new batch. given_written work form buckets (batch_writes new batch);
+      completed = λ form props batch before after job mine t made legal wrote answer. (batch_written work form props batch before after job mine t made legal wrote answer).completed;
+      given = λ form props new batch. given_written work form props (batch_writes new batch);
     }

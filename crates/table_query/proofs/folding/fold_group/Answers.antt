@@ -14,10 +14,10 @@ returns g c =
     let keys : List ℕ = c.args.completed.now.keys in
     let void : List ℕ = c.in-Ok-set_of.void.keys in
     let logs : List PartLog = c.in-Ok.logs in
-    let found : logs_of (text_at c.args.texts.now) c.args.first c.args.parts.now.parts ≡ Ok logs =
-    ap (λ (ps : List Part). logs_of (text_at c.args.texts.now) c.args.first ps) (sym c.as_slice.ensures) ∙ c.in-Ok.ensures in
+    let found : logs_of (text_at c.args.texts.now) 0 c.args.parts.now.parts ≡ Ok logs =
+    ap (λ (ps : List Part). logs_of (text_at c.args.texts.now) 0 ps) (sym c.as_slice.ensures) ∙ c.in-Ok.ensures in
     let targets : c.deref.result.now ≡ voided logs = c.deref.ensures.value ∙ c.in-Ok-Ok.ensures ∙ ap voided c.as_slice-2.ensures in
-    let same : logs_writes reading group (counts keys void) c.as_slice-3.result.now ≡ group_writes reading keys (text_at c.args.texts.now) c.args.first c.args.parts.now =
+    let same : logs_writes reading group (counts keys void) c.as_slice-3.result.now ≡ group_writes reading keys (text_at c.args.texts.now) 0 c.args.parts.now =
     ap (λ (ls : List PartLog). logs_writes reading group (counts keys void) ls) c.as_slice-3.ensures
     ∙ sym (logs_same reading group keys keys (voided logs) void (λ t. refl) (λ t. sym (c.in-Ok-set_of.ensures t ∙ ap (λ (xs : List ℕ). is_among xs t) targets)) logs)
     ∙ sym (ap (λ (r : Result (List PartLog) Damage). writes_in reading keys group r) found) in

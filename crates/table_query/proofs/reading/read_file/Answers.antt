@@ -24,6 +24,7 @@ loop-at-preserved g c =
         pins = λ at pinned. c.read_piece.ensures.leaves.pins at (before.leaves.pins at pinned);
         view = c.read_piece.ensures.leaves.view ∙ before.leaves.view;
         others = λ k other. c.read_piece.ensures.leaves.others k other ∙ before.leaves.others k other;
+        front = λ n below old. c.read_piece.ensures.leaves.front n below (before.leaves.front n below old);
       };
       phase = piece.phase ∙ pieces.goes_on c.args.pin c.args.file c.args.size c.loop-at.at c.min-len.result some (phase (entries_of (g.T.Steps.mine c.args.steps.now))) (phase (entries_of (g.T.Steps.mine c.loop-at.steps))) c.requires.next before.phase left;
       untold = piece.untold;
@@ -41,6 +42,7 @@ returns-in-Err-clause-leaves g c =
       pins = λ at pinned. piece.pins at (before.pins at pinned);
       view = piece.view ∙ before.view;
       others = λ k other. piece.others k other ∙ before.others k other;
+      front = λ n below old. piece.front n below (before.front n below old);
     }
 
 pub returns-in_default-clause-leaves : goal.returns-in_default-clause-leaves
@@ -51,4 +53,5 @@ returns-in_default-clause-leaves g c =
       pins = λ at pinned. piece.pins at (before.pins at pinned);
       view = piece.view ∙ before.view;
       others = λ k other. piece.others k other ∙ before.others k other;
+      front = λ n below old. piece.front n below (before.front n below old);
     }

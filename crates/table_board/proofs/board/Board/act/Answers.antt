@@ -17,6 +17,7 @@ use Rattle.table_history.specs.declared.reply.Reply.TheVariants as reply
 use Rattle.table_board.proofs.Running.{acted_on, replies_more, still_holds}
 use Rattle.table_board.proofs.Keeping.{asked_of, acted, origin_of, reply_of, changes_of}
 use Rattle.table_board.proofs.board.Board.act.Goals as goal
+use Rattle.table_props.specs.PropsTexts.{told_of}
 
 pub prepare-requires : goal.prepare-requires
 prepare-requires g c =
@@ -30,7 +31,7 @@ pub invariant_of-self-2 : goal.invariant_of-self-2
 invariant_of-self-2 g c =
     let work : Work = record { Asks = g.W.Work.asks; Holds = g.W.Work.holds } in
     let i = c.self.inside in
-    let A : Table = fresh i.control.table i.control.buckets in
+    let A : Table = fresh (told_of i.control.props) in
     let P : History → Type 0 = λ H. Allows work c.args.job (phase (own c.args.job H)) c.args.step in
     let law : Allows work c.args.job (phase (own c.args.job i.journal.entries)) c.args.step = subst P (sym (ap (λ v. v.entries) c.self.view_is)) c.requires.allowed in
     let d : Decision = record { reply = c.in-Ok.prepared.replies.kept; op = c.in-Ok.prepared.op } in
@@ -58,13 +59,13 @@ invariant_of-self-2 g c =
     let entries = c.push.ensures.entries ∙ ap (λ (H : History). record { job = c.args.job; step = c.args.step; reply = c.in-Ok-settle.replies.kept } ∷ H) c.prepare.ensures.entries in
     record {
       always =
-          board_more work i.control.table i.control.buckets c.take_entry.new.control i.journal.entries c.push.new.self i.first_faults m n (g.C.Clock.state i.clock).most
+          board_more work (told_of i.control.props) c.take_entry.new.control i.journal.entries c.push.new.self i.first_faults m n (g.C.Clock.state i.clock).most
           (record { job = c.args.job; step = c.args.step; reply = c.in-Ok-settle.replies.kept })
           keeps c.self.invariant.always.faults c.self.invariant.always.drawn entries counted
-          (time_drawn_at i.control.table i.control.buckets i.journal.entries c.args.step c.in-Ok-settle.replies.kept c.args.now (g.C.Clock.state i.clock) fits shows draws);
+          (time_drawn_at (told_of i.control.props) i.journal.entries c.args.step c.in-Ok-settle.replies.kept c.args.now (g.C.Clock.state i.clock) fits shows draws);
       replies = replies_more (record { job = c.args.job; step = c.args.step; reply = c.in-Ok-settle.replies.kept }) i.journal.entries c.push.new.self.entries entries fits c.self.invariant.replies;
       on_honest =
-          acted_on work i.control.table i.control.buckets i.control c.prepare.new.control c.take_entry.new.control i.journal c.push.new.self c.args.job c.args.step _ d c.perform-outcome.result
+          acted_on work (told_of i.control.props) i.control c.prepare.new.control c.take_entry.new.control i.journal c.push.new.self c.args.job c.args.step _ d c.perform-outcome.result
           c.in-Ok-settle.replies.kept i.first_done (g.S.Store.is_honest i.store) (g.S.Store.is_honest c.perform-outcome.new.store) (g.S.Store.state i.store) (g.S.Store.state c.perform-outcome.new.store)
           c.self.invariant.always.keeps keeps law decides c.perform-outcome.ensures.done c.in-Ok-settle.ensures.known c.in-Ok-settle.ensures.kept c.prepare.ensures.tables c.in-Ok.ensures.room
           c.in-Ok.ensures.time c.perform-outcome.ensures.honest.1 c.self.invariant.on_honest entries;
@@ -74,7 +75,7 @@ pub returns-clause-origin : goal.returns-clause-origin
 returns-clause-origin g c =
     let work : Work = record { Asks = g.W.Work.asks; Holds = g.W.Work.holds } in
     let i = c.self.inside in
-    let A : Table = fresh i.control.table i.control.buckets in
+    let A : Table = fresh (told_of i.control.props) in
     let P : History → Type 0 = λ H. Allows work c.args.job (phase (own c.args.job H)) c.args.step in
     let law : Allows work c.args.job (phase (own c.args.job i.journal.entries)) c.args.step = subst P (sym (ap (λ v. v.entries) c.self.view_is)) c.requires.allowed in
     let d : Decision = record { reply = c.in-Ok.prepared.replies.kept; op = c.in-Ok.prepared.op } in
@@ -85,15 +86,15 @@ returns-clause-origin g c =
     c.perform-outcome.ensures.done.ends c.in-Ok-settle.ensures.known c.in-Ok-settle.ensures.kept
     c.prepare.ensures.tables c.prepare.ensures.entries c.prepare.ensures.owed c.prepare.ensures.for_owed c.in-Ok.ensures.for_entry
     c.take_entry.ensures c.push.ensures.entries c.push.ensures.owed c.push.ensures.room in
-    let same : origin_of c.take_entry.new.control.table c.take_entry.new.control.buckets i.first_faults i.first_done ≡ origin_of i.control.table i.control.buckets i.first_faults i.first_done =
-    λ j. origin_of (keeps.tables.name j) (keeps.tables.buckets j) i.first_faults i.first_done in
+    let same : origin_of (told_of c.take_entry.new.control.props) i.first_faults i.first_done ≡ origin_of (told_of i.control.props) i.first_faults i.first_done =
+    λ j. origin_of (keeps.tables.props j) i.first_faults i.first_done in
     same ∙ ap (λ v. v.origin) c.self.view_is
 
 pub returns-clause-reply : goal.returns-clause-reply
 returns-clause-reply g c =
     let work : Work = record { Asks = g.W.Work.asks; Holds = g.W.Work.holds } in
     let i = c.self.inside in
-    let A : Table = fresh i.control.table i.control.buckets in
+    let A : Table = fresh (told_of i.control.props) in
     let P : History → Type 0 = λ H. Allows work c.args.job (phase (own c.args.job H)) c.args.step in
     let law : Allows work c.args.job (phase (own c.args.job i.journal.entries)) c.args.step = subst P (sym (ap (λ v. v.entries) c.self.view_is)) c.requires.allowed in
     let d : Decision = record { reply = c.in-Ok.prepared.replies.kept; op = c.in-Ok.prepared.op } in
@@ -105,7 +106,7 @@ returns-clause-reply g c =
 pub returns-clause-store : goal.returns-clause-store
 returns-clause-store g c =
     let i = c.self.inside in
-    let A : Table = fresh i.control.table i.control.buckets in
+    let A : Table = fresh (told_of i.control.props) in
     let K : History = known_entries A i.journal.entries in
     let d : Decision = record { reply = c.in-Ok.prepared.replies.kept; op = c.in-Ok.prepared.op } in
     rw (c.in-Ok-settle.ensures.given, c.in-Ok-settle.ensures.kept, ← c.self.view_is)
@@ -116,7 +117,7 @@ pub returns-clause-draws : goal.returns-clause-draws
 returns-clause-draws g c =
     let work : Work = record { Asks = g.W.Work.asks; Holds = g.W.Work.holds } in
     let i = c.self.inside in
-    let A : Table = fresh i.control.table i.control.buckets in
+    let A : Table = fresh (told_of i.control.props) in
     let K : History = known_entries A i.journal.entries in
     let P : History → Type 0 = λ H. Allows work c.args.job (phase (own c.args.job H)) c.args.step in
     let law : Allows work c.args.job (phase (own c.args.job i.journal.entries)) c.args.step = subst P (sym (ap (λ v. v.entries) c.self.view_is)) c.requires.allowed in

@@ -4,4 +4,4 @@ use Rattle.table_core.proofs.control.Control.groups.Given as goal
 
 abbrev pub invariant-loop-slice : goal.invariant-loop-slice
 invariant-loop-slice l =
-    l.groups ++ groups_among l.self.table l.self.buckets l.slice-iterator ≡ groups_among l.self.table l.self.buckets l.self.slices.slots.entries
+    l.groups ++ groups_among l.self.props.name l.self.buckets l.slice-iterator ≡ groups_among l.self.props.name l.self.buckets l.self.slices.slots.entries

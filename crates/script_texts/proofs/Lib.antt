@@ -1,0 +1,2 @@
+pub mod PutParts
+pub mod RowParts
