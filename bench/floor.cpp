@@ -1,5 +1,6 @@
-// What a run of a script costs at least: the same files with the same syncs and the same text, from a program that proves,
-// keeps and checks nothing. It trusts its input, keeps rows where the parser left them, and reads nothing back.
+// What a run of a script costs at least: the same files with the same syncs and the same text, from a program that
+// proves, keeps and checks nothing. It trusts its input, which is a script of upserts.py, keeps rows where the parser
+// left them, and reads nothing back.
 //
 // Build: g++ -O2 -std=c++17 floor.cpp -lsimdjson -o floor
 // Run:   floor FOLDER [bare] <script
@@ -23,14 +24,35 @@
 using std::string;
 using std::string_view;
 
-static const char *LOG = "x/.0000ffff-c50d-5b40-af36-b8949fde563e-0_20000101000000000.log.1_0-0-0";
+// The table of such a script: its one partition, and in that its one file group.
+static const string FILE_ID = "0000ffff-4f01-52df-a6be-557d177dca72-0";
+static const string LOG = "x/." + FILE_ID + "_20000101000000000.log.1_0-0-0";
+static const string OWN_FIELDS =
+    "{\"name\":\"id\",\"type\":\"string\"},{\"name\":\"p\",\"type\":\"string\"},{\"name\":\"v\",\"type\":\"long\"},"
+    "{\"name\":\"body\",\"type\":\"string\"}";
+static const string PROPERTIES =
+    "hoodie.table.name=t\n"
+    "hoodie.table.type=MERGE_ON_READ\n"
+    "hoodie.table.version=6\n"
+    "hoodie.table.recordkey.fields=id\n"
+    "hoodie.table.partition.fields=p\n"
+    "hoodie.table.precombine.field=v\n"
+    "hoodie.timeline.layout.version=1\n"
+    "profile.buckets=1\n"
+    "profile.schema={\"fields\":[" + OWN_FIELDS + "],\"name\":\"r\",\"type\":\"record\"}\n";
+
+// The schema of a record in the log: five columns before the row's own.
+static const string RECORD_SCHEMA =
+    "{\"fields\":[{\"name\":\"_hoodie_commit_time\",\"type\":\"string\"},"
+    "{\"name\":\"_hoodie_commit_seqno\",\"type\":\"string\"},{\"name\":\"_hoodie_record_key\",\"type\":\"string\"},"
+    "{\"name\":\"_hoodie_partition_path\",\"type\":\"string\"},{\"name\":\"_hoodie_file_name\",\"type\":\"string\"},"
+    + OWN_FIELDS + "],\"name\":\"r\",\"type\":\"record\"}";
 
 // What metadata says of the one group, up to the number of its writes.
-static const string GROUP =
-    "{\"base\":\"20000101000000000\",\"file\":\"0000ffff-c50d-5b40-af36-b8949fde563e-0\",\"partition\":\"x\"";
+static const string GROUP = "{\"base\":\"20000101000000000\",\"file\":\"" + FILE_ID + "\",\"partition\":\"x\"";
 
 struct Row {
-    string_view key;
+    string_view key, partition;
     int64_t rank;
     string_view body;
     uint32_t commit, place;
@@ -69,11 +91,11 @@ static void make(const string &name, const string &bytes) {
 
 static void append(const string &bytes) {
     bool first = log_file < 0;
-    if (first) log_file = openat(root, LOG, O_WRONLY | O_CREAT | O_APPEND, 0644);
-    must(log_file >= 0, LOG);
-    put(log_file, bytes, LOG);
+    if (first) log_file = openat(root, LOG.c_str(), O_WRONLY | O_CREAT | O_APPEND, 0644);
+    must(log_file >= 0, LOG.c_str());
+    put(log_file, bytes, LOG.c_str());
     if (bare) return;
-    must(fsync(log_file) == 0, LOG);
+    must(fsync(log_file) == 0, LOG.c_str());
     if (first) must(fsync(partition) == 0, "sync of the partition");
 }
 
@@ -91,35 +113,66 @@ static void put_number(string &out, uint64_t number, int bytes) {
     for (int i = bytes - 1; i >= 0; i--) out.push_back(char(number >> (8 * i)));
 }
 
+// The same in place of what stands there.
+static void fill_number(string &out, size_t at, uint64_t number, int bytes) {
+    for (int i = 0; i < bytes; i++) out[at + i] = char(number >> (8 * (bytes - 1 - i)));
+}
+
 static void put_sized(string &out, string_view bytes) {
     put_number(out, bytes.size(), 4);
     out.append(bytes);
 }
 
+// A number in Avro's form: zigzag, then seven bits a byte, least first.
+static void put_long(string &out, int64_t number) {
+    uint64_t left = uint64_t(number) << 1 ^ uint64_t(number >> 63);
+    for (; left > 127; left >>= 7) out.push_back(char(left | 128));
+    out.push_back(char(left));
+}
+
+static void put_string(string &out, string_view text) {
+    put_long(out, int64_t(text.size()));
+    out.append(text);
+}
+
+// A record behind its length, which is put once it is known.
+static void put_record(string &out, const string &time, const Row &row) {
+    size_t at = out.size();
+    char seqno[40];
+    size_t length = snprintf(seqno, sizeof seqno, "%s_0_%u", time.c_str(), row.place);
+    out.append(4, '\0');
+    put_string(out, time);
+    put_string(out, string_view(seqno, length));
+    put_string(out, row.key);
+    put_string(out, row.partition);
+    put_string(out, FILE_ID);
+    put_string(out, row.key);
+    put_string(out, row.partition);
+    put_long(out, row.rank);
+    put_string(out, row.body);
+    fill_number(out, at, out.size() - at - 4, 4);
+}
+
 // A data block: its magic, length, version, type, header, content, footer and size.
 static void put_block(string &out, const string &time, const Row *rows, size_t count) {
-    size_t content = 8;
-    for (size_t i = 0; i < count; i++) content += 16 + rows[i].key.size() + rows[i].body.size();
-    uint64_t length = 4 + 4 + 4 + 4 + 4 + time.size() + 4 + 4 + 2 + 8 + content + 4 + 8;
     out.append("#HUDI#");
-    put_number(out, length, 8);
+    put_number(out, 0, 8);
     put_number(out, 1, 4);
     put_number(out, 3, 4);
     put_number(out, 2, 4);
     put_number(out, 0, 4);
     put_sized(out, time);
     put_number(out, 2, 4);
-    put_sized(out, "r1");
-    put_number(out, content, 8);
+    put_sized(out, RECORD_SCHEMA);
+    put_number(out, 0, 8);
+    size_t content = out.size();
     put_number(out, 3, 4);
     put_number(out, count, 4);
-    for (size_t i = 0; i < count; i++) {
-        put_sized(out, rows[i].key);
-        put_number(out, uint64_t(rows[i].rank), 8);
-        put_sized(out, rows[i].body);
-    }
+    for (size_t i = 0; i < count; i++) put_record(out, time, rows[i]);
+    fill_number(out, content - 8, out.size() - content, 8);
     put_number(out, 0, 4);
-    put_number(out, length + 6, 8);
+    fill_number(out, 6, out.size() + 8 - 14, 8);
+    put_number(out, out.size(), 8);
 }
 
 static void put_text(string &out, string_view text) {
@@ -159,9 +212,11 @@ static void put_rows(string &out, const std::vector<Row> &rows, const std::vecto
         out.append("{\"_hoodie_commit_seqno\":\"").append(time).append("_0_").append(std::to_string(best->place));
         out.append("\",\"_hoodie_commit_time\":\"").append(time).append("\",\"body\":");
         put_text(out, best->body);
-        out.append(",\"key\":");
+        out.append(",\"id\":");
         put_text(out, best->key);
-        out.append(",\"rank\":").append(std::to_string(best->rank)).push_back('}');
+        out.append(",\"p\":");
+        put_text(out, best->partition);
+        out.append(",\"v\":").append(std::to_string(best->rank)).push_back('}');
     }
     out.push_back(']');
 }
@@ -207,12 +262,19 @@ int main(int count, char **words) {
         string line = std::to_string(number);
         parsers.emplace_back();
         auto job = parsers.back().parse(input.data() + at, end - at, true);
-        if (job["job"].get_string().value() == "snapshot") {
+        string_view kind = job["job"].get_string().value();
+        if (kind == "init") {
+            make("hoodie.properties", PROPERTIES);
+            text.append(line).append(" init made\n");
+            continue;
+        }
+        if (kind == "snapshot") {
             string pin = std::to_string(++pins);
             text.append(line).append(" snapshot rows ").append(times.empty() ? "none" : times.back()).push_back(' ');
             put_rows(text, rows, times);
             text.push_back('\n');
-            marks.append("mark 1 ").append(line).append(" pin pinned ").append(std::to_string(last)).append(" ").append(pin);
+            marks.append("mark 1 ").append(line).append(" pin pinned ");
+            marks.append(std::to_string(last)).append(" ").append(pin);
             for (size_t piece = 0; piece < placed; piece += 16777216)
                 marks.append("\nmark 1 ").append(line).append(" read bytes 0 ").append(std::to_string(piece));
             marks.append("\nmark 1 ").append(line).append(" unpin done ").append(pin).append(" 0\n");
@@ -223,7 +285,7 @@ int main(int count, char **words) {
         string time = time_text(ms), instant = std::to_string(ms);
         size_t first = rows.size();
         for (auto row : job["rows"].get_array())
-            rows.push_back({row["key"].get_string().value(), row["rank"].get_int64().value(),
+            rows.push_back({row["id"].get_string().value(), row["p"].get_string().value(), row["v"].get_int64().value(),
                             row["body"].get_string().value(), uint32_t(times.size()), uint32_t(rows.size() - first)});
         times.push_back(time);
         make(time + ".deltacommit.requested", "");

@@ -3,8 +3,8 @@
 
 Run: same_rows.py OURS PEERS [FLOOR]
 
-OURS is what the program printed, of which the last job line has the rows, and FLOOR the same of the floor, whose lines are
-those of the program but for the times. PEERS has one row a line.
+OURS is what the program printed, of which the last job line has the rows, and FLOOR the same of the floor, whose lines
+are those of the program but for the times of instants. PEERS has one row a line.
 """
 import json
 import re
@@ -12,7 +12,7 @@ import sys
 
 
 def parts(row):
-    return row["key"], row["rank"], row["body"]
+    return row["p"], row["id"], row["v"], row["body"]
 
 
 def lines_of(path):
@@ -25,8 +25,12 @@ def last_rows(lines):
     return [parts(row) for row in json.loads(last[last.index("["):])]
 
 
-def without_times(line):
-    return re.sub(r"\d{13,17}", "T", line)
+def without_times(lines):
+    """The lines with a number in place of each instant's time, told in digits or, in marks, in milliseconds."""
+    digits = [line.split()[3] for line in lines if re.match(r"\d+ \w+ committed ", line)]
+    marked = [line.split()[5] for line in lines if re.match(r"mark 1 \d+ begin began ", line)]
+    names = {time: f"T{place}" for times in (digits, marked) for place, time in enumerate(times)}
+    return [re.sub(r"\d{13,17}", lambda found: names.get(found[0], found[0]), line) for line in lines]
 
 
 told = lines_of(sys.argv[1])
@@ -37,7 +41,6 @@ if ours != peers:
     sys.exit(f"rows differ: {len(ours)} and {len(peers)} of them, first at place {place}: "
              f"{ours[place:place + 1]} and {peers[place:place + 1]}")
 for floor in sys.argv[3:]:
-    floor = lines_of(floor)
-    if list(map(without_times, told)) != list(map(without_times, floor)):
+    if without_times(told) != without_times(lines_of(floor)):
         sys.exit("the floor printed another text")
 print(f"the same {len(ours)} rows")

@@ -1,15 +1,17 @@
 #!/bin/sh
-# Times the program beside sqlite3 and beside a floor in C++: upserts read from JSON lines, folded by key and rank, and
-# printed in key order.
+# Times the program beside sqlite3 and beside a floor in C++: upserts read from JSON lines into a table with an ordering
+# field, folded by key, and printed in key order.
 #
-# Run: bench/upserts.sh
-# It wants python3, sqlite3 and g++ with libsimdjson, and skips where one is missing. It ends with status 1 where the rows
-# that they print differ. Whether the figures meet their aims stands in its last lines.
+# Run: bench/upserts.sh [ROWS [PROGRAM]]
+# ROWS is the number of rows of each of the 10 and then 100 upserts: 10,000 where none is told, for which the aims
+# are. Without a path of the program it is the one of this checkout, which is built first. It wants python3, sqlite3
+# and g++ with libsimdjson, and skips where one is missing. It ends with status 1 where the rows that they print
+# differ, or the text or the files of the floor. Whether the figures meet their aims stands in its last lines.
 set -eu
 top=$(cd "$(dirname "$0")/.." && pwd)
-program=$top/crates/hudi_cli/out/hudi_cli
 bench=$top/bench
-rows_a_line=10000
+rows_a_line=${1:-10000}
+program=${2:-$top/crates/hudi_cli/out/hudi_cli}
 most_ratio=0.25 # of the program's time to sqlite3's
 most_floor=1.7  # of the program's time to the floor's
 most_growth=11  # of the program's time for ten times the rows
@@ -32,7 +34,7 @@ trap 'exit 1' HUP INT TERM
 
 # Without words the script `hudi` builds the program and says how it is used. What is timed is the program itself,
 # without the look at its sources.
-"$top/hudi" >"$work/usage" || [ $? -eq 2 ]
+[ $# -gt 1 ] || "$top/hudi" >"$work/usage" || [ $? -eq 2 ]
 if ! g++ -O2 -std=c++17 "$bench/floor.cpp" -lsimdjson -o "$work/floor" 2>"$work/usage"; then
     echo "skipped: no libsimdjson"
     exit 0
@@ -41,21 +43,21 @@ fi
 # The peer's script. What makes it fair: sqlite parses the same JSON lines as the program, each in a file of its own,
 # so that its shell needn't read them as SQL. A line is a transaction, as a line is one append that is synced. The rows
 # lie in the key's own tree, and the cache holds the table, which is faster here than the settings that sqlite begins
-# with. A text is compared by its bytes, so `order by key` is the order of the keys as blobs.
+# with. A text is compared by its bytes, so the order of partitions and keys is that of blobs.
 peer_script() {
     echo "pragma cache_size = -262144;"
-    echo "create table rows(key text primary key, rank integer not null, body text not null) without rowid;"
+    echo "create table rows(p text, id text, v integer not null, body text not null, primary key(p, id)) without rowid;"
     for line in "$1"/line.*; do
         cat <<SQL
 begin;
 insert into rows
-    select value ->> 'key', value ->> 'rank', value ->> 'body'
+    select value ->> 'p', value ->> 'id', value ->> 'v', value ->> 'body'
     from json_each(cast(readfile('$line') as text), '\$.rows') where true
-    on conflict(key) do update set rank = excluded.rank, body = excluded.body where excluded.rank >= rank;
+    on conflict(p, id) do update set v = excluded.v, body = excluded.body where excluded.v >= v;
 commit;
 SQL
     done
-    echo "select json_object('body', body, 'key', key, 'rank', rank) from rows order by key;"
+    echo "select json_object('body', body, 'id', id, 'p', p, 'v', v) from rows order by p, id;"
 }
 
 # The run in the middle of five, each a time and a memory.
@@ -63,13 +65,13 @@ median() {
     sort -n "$1" | sed -n 3p
 }
 
-# Runs all on a load of so many lines, in turn, five times. It leaves their median runs in `ours`, `floors` and `peers`: on a
-# machine that others share, the best of a few runs is now and then far below the others.
+# Runs all on a load of so many lines, in turn, five times. It leaves their median runs in `ours`, `floors` and
+# `peers`: on a machine that others share, the best of a few runs is now and then far below the others.
 run_all() {
     load=$work/$1
     mkdir "$load"
     python3 "$bench/upserts.py" "$1" "$rows_a_line" >"$load/script"
-    head -n "$1" "$load/script" | (cd "$load" && split -l 1 -a 3 - line.)
+    sed -n "2,$(($1 + 1))p" "$load/script" | (cd "$load" && split -l 1 -a 3 - line.)
     peer_script "$load" >"$load/peer"
     for _ in 1 2 3 4 5; do
         rm -rf "$load/table" "$load/bare" "$load/db"
@@ -81,7 +83,8 @@ run_all() {
     floors=$(median "$load/floor_runs")
     peers=$(median "$load/peer_runs")
     same=$(python3 "$bench/same_rows.py" "$load/ours" "$load/peers" "$load/floor")
-    printf '%s rows: %s\n' "$(($1 * rows_a_line))" "$same"
+    files=$(python3 "$bench/same_files.py" "$load/table" "$load/bare")
+    printf '%s rows: %s, %s\n' "$(($1 * rows_a_line))" "$same" "$files"
     tell program "$ours"
     tell floor "$floors"
     tell sqlite3 "$peers"
@@ -108,7 +111,9 @@ run_all 10
 few=${ours% *}
 run_all 100
 many=${ours% *}
-aim "program / sqlite3 at 1,000,000 rows" "$(ratio "$many" "${peers% *}")" "$most_ratio"
-aim "program / floor at 1,000,000 rows" "$(ratio "$many" "${floors% *}")" "$most_floor"
-aim "program at 1,000,000 rows / at 100,000" "$(ratio "$many" "$few")" "$most_growth"
-aim "memory of the program / of the floor at 1,000,000 rows" "$(ratio "${ours#* }" "${floors#* }")" "$most_memory"
+least=$((10 * rows_a_line))
+most=$((100 * rows_a_line))
+aim "program / sqlite3 at $most rows" "$(ratio "$many" "${peers% *}")" "$most_ratio"
+aim "program / floor at $most rows" "$(ratio "$many" "${floors% *}")" "$most_floor"
+aim "program at $most rows / at $least" "$(ratio "$many" "$few")" "$most_growth"
+aim "memory of the program / of the floor at $most rows" "$(ratio "${ours#* }" "${floors#* }")" "$most_memory"

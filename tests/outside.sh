@@ -1,15 +1,18 @@
 #!/bin/sh
 # Tries the built program on a real folder and real streams: what it answers, what it writes and what it leaves.
 #
-# Run: tests/outside.sh
-# It prints one line a case, and ends with status 1 if any failed. It wants python3, and skips a case that wants what
-# this machine or this user doesn't have.
+# Run: tests/outside.sh [PROGRAM]
+# Without a path of the program it is the one of this checkout, which is built first. It prints one line a case, and
+# ends with status 1 if any failed. It wants python3, and skips a case that wants what this machine or this user
+# doesn't have.
 #
-# What is expected comes from the description of the program and of the log's format, never from what it printed.
+# What is expected comes from the description of the program and of the files' formats, never from what it printed:
+# tests/outside.py says how.
 set -u
+export PYTHONDONTWRITEBYTECODE=1 # nothing is left beside the scripts
 top=$(cd "$(dirname "$0")/.." && pwd)
-program=$top/crates/hudi_cli/out/hudi_cli
-log=x/.0000ffff-c50d-5b40-af36-b8949fde563e-0_20000101000000000.log.1_0-0-0
+program=${1:-$top/crates/hudi_cli/out/hudi_cli}
+log=x/.0000ffff-4f01-52df-a6be-557d177dca72-0_20000101000000000.log.1_0-0-0
 most=67108864
 usage='usage: hudi DIR run LANES'
 
@@ -17,11 +20,14 @@ if ! command -v python3 >/dev/null; then
     echo "skipped: no python3"
     exit 0
 fi
-if [ ! -x "$program" ] && ! command -v rt >/dev/null; then
+if [ $# -gt 0 ]; then
+    program=$(cd "$(dirname "$program")" && pwd)/$(basename "$program")
+elif [ ! -x "$program" ] && ! command -v rt >/dev/null; then
     echo "skipped: no built program and no rt"
     exit 0
+else
+    "$top/hudi" >/dev/null || [ $? -eq 2 ] || exit 1 # builds it
 fi
-"$top/hudi" >/dev/null || [ $? -eq 2 ] || exit 1 # builds it
 
 work=$(mktemp -d)
 mounted=
@@ -86,18 +92,39 @@ no_file_below() {
 same_files() {
     cmp "$1" "$2"
 }
+sums() {
+    find "$1" -type f -exec cksum {} + | sort
+}
 has_size() {
     found=$(wc -c <"$1")
     [ "$found" -eq "$2" ] || ! echo "$found bytes, not $2"
 }
+has_block_at() { # FILE BYTES, from the end
+    [ "$(tail -c "$2" "$1" | head -c 6)" = '#HUDI#' ] || ! echo "no block"
+}
+has_lines() { # COUNT TEXT FILE
+    found=$(grep -c "$2" "$3")
+    [ "$found" -eq "$1" ] || ! echo "$found lines, not $1"
+}
 
 # --- Scripts that run
 
-cat >worked <<'END'
-{"job":"upsert","rows":[{"key":"a","rank":5,"body":"one"},{"key":"b","rank":1,"body":"two"}]}
-{"job":"upsert","rows":[{"key":"a","rank":3,"body":"no"},{"key":"b","rank":1,"body":"new"}]}
+init='{"job":"init","name":"t","schema":{"type":"record","name":"r","fields":[{"name":"id","type":"string"},'\
+'{"name":"p","type":"string"},{"name":"v","type":"long"}]},"key":"id","partition":"p","ordering":"v","buckets":1}'
+made='1 init made'
+none='2 snapshot rows none []
+mark 1 2 pin pinned 0 1
+mark 1 2 unpin done 1 0'
+
+{
+    printf '%s\n' "$init"
+    cat <<'END'
+{"job":"upsert","rows":[{"id":"a","p":"x","v":5},{"id":"b","p":"x","v":1}]}
+{"job":"upsert","rows":[{"id":"a","p":"x","v":3},{"id":"b","p":"x","v":1}]}
+{"job":"delete","keys":[{"partition":"x","key":"a","rank":4}]}
 {"job":"snapshot"}
 END
+} >worked
 
 ran() { # SCRIPT FOLDER NAME
     from=$(milliseconds)
@@ -107,7 +134,7 @@ ran() { # SCRIPT FOLDER NAME
 }
 
 ran worked worked.d "a good script"
-expect "a good script: two blocks of 129 and 128 bytes" 0 - has_size "worked.d/$log" 257
+expect "a good script: the log ends in a delete block of 92 bytes" 0 - has_block_at "worked.d/$log" 92
 cp "worked.d/$log" before
 run worked worked.d
 expect "the same script again in the same folder" 9 'table exists' same_files "worked.d/$log" before
@@ -117,9 +144,12 @@ for seed in 1 2 3 4 5; do
     ran "random$seed" "random$seed.d" "a random script, seed $seed"
 done
 look script 6 1 1000 >random6
-ran random6 random6.d "a random script of one upsert"
+ran random6 random6.d "a random script of one write"
 look script 7 200 2 >random7
-ran random7 random7.d "a random script of 200 upserts"
+ran random7 random7.d "a random script of 200 writes"
+look times >times
+ran times times.d "a snapshot at each millisecond of five seconds"
+expect "a snapshot at each millisecond: three of them find an instant" 0 - has_lines 3 'snapshot rows 2' out
 
 ran worked "a folder with  spaces" "a folder with spaces"
 ran worked "Ordner-ü-日本-😀" "a folder with a Unicode name"
@@ -140,17 +170,45 @@ mkdir other.d
 echo other >other.d/note
 run worked other.d
 expect "a folder with another file" 9 'table exists' nothing_at other.d/x
+echo x >bad
+run bad other.d
+expect "a folder with another file, and a bad line" 3 'bad line 1 json' nothing_at other.d/x
 
 echo '{"job":"snapshot"}' >snapshot
-none='1 snapshot rows none []
-mark 1 1 pin pinned 0 1
-mark 1 1 unpin done 1 0'
 run snapshot none.d
-expect "a snapshot alone" 0 "$none" nothing_at none.d
+expect "a snapshot alone" 9 'no table' nothing_at none.d
 
+status=0
+look cases "$program" >out || status=$?
+expect "the scripts of the whole runs, on folders" 0 - cat out
 status=0
 python3 "$top/tests/random_scripts.py" "$program" 1 300 >out || status=$?
 expect "300 random scripts, many of them damaged" 0 - cat out
+
+# --- Limits
+
+bad_big() { # NAME TEXT
+    run big bad.d
+    expect "$1" 3 "$2" nothing_at bad.d
+}
+
+look rows 100000 >big
+ran big rows.d "100,000 rows of an upsert"
+look rows 100001 >big
+bad_big "100,001 rows of an upsert" 'bad line 2 field rows'
+look keys 100000 >big
+ran big keys.d "100,000 keys of a delete"
+look keys 100001 >big
+bad_big "100,001 keys of a delete" 'bad line 4 field keys'
+look deep 127 >big
+ran big deep.d "127 levels of nesting"
+look deep 128 >big
+bad_big "128 levels of nesting" 'bad line 3 json'
+look long "$most" >big
+ran big long.d "a line of $most bytes"
+look long "$((most + 1))" >big
+bad_big "a line of one byte more" 'bad line 0 too_long'
+rm -rf big rows.d keys.d long.d
 
 # --- Words
 
@@ -187,7 +245,7 @@ input() { # NAME STATUS TEXT
 
 bad_script() { # NAME LINE
     run script input.d
-    input "$1" 3 "bad line $2 form"
+    input "$1" 3 "bad line $2 json"
 }
 
 run "$work" input.d
@@ -197,32 +255,38 @@ status=0
 input "standard input is closed" 5 ''
 
 run /dev/null input.d
-input "standard input is empty" 0 ''
+input "standard input is empty" 9 'no table'
 status=0
-{ sed 1q worked; sleep 1; sed 1d worked; } | "$program" pieces.d run 1 >out 2>err || status=$?
-expect "standard input comes in pieces" 0 - has_size "pieces.d/$log" 257
+from=$(milliseconds)
+{ sed 2q worked; sleep 1; sed 1,2d worked; } | "$program" pieces.d run 1 >out 2>err || status=$?
+expect "standard input comes in pieces" 0 - look ran worked out pieces.d "$from" "$(milliseconds)"
 
-{ sed 1q worked; printf '{"job":"upsert","rows":[{"key":"\377","rank":1,"body":""}]}\n{"job":"snapshot"}\n'; } >script
+{ sed 1q worked; printf '{"job":"upsert","rows":[{"id":"\377","p":"x","v":1}]}\n{"job":"snapshot"}\n'; } >script
 bad_script "a byte that isn't UTF-8" 2
-{ sed 1q worked; echo; printf '{"job":"upsert","rows":[{"key":"a","rank":1,"body":"\355\240\200"}]}\n'; } >script
+{ sed 1q worked; echo; printf '{"job":"upsert","rows":[{"id":"a\355\240\200","p":"x","v":1}]}\n'; } >script
 bad_script "UTF-8 of half a surrogate pair" 3
-printf '\357\273\277{"job":"snapshot"}\n' >script
+printf '\357\273\277%s\n' "$init" >script
 bad_script "a byte order mark" 1
-printf '{"job":"snapshot"}\n\377\n' >script
-bad_script "a byte that isn't UTF-8 behind the snapshot" 2
-printf '{"job":"snapshot"}\r' >script
-run script input.d
-input "a carriage return at the end of the input is a blank" 0 "$none"
-printf '{"job":"snapshot"}\000\n' >script
-bad_script "NUL behind a line" 1
+printf '%s\n\377\n' "$init" >script
+bad_script "a byte that isn't UTF-8 behind the table" 2
+printf '%s\n\000\n' "$init" >script
+bad_script "a line of NUL" 2
+printf '%s\n{"job":"snapshot"}\000\n' "$init" >script
+bad_script "NUL behind a line" 2
+printf '%s\n{"job":"snapshot"}\r' "$init" >script
+ran script return.d "a carriage return at the end of the input is a blank"
 
-# A script of so many bytes: line feeds before the snapshot's line.
+# A script of so many bytes: line feeds between the table and a snapshot.
 long_script() {
-    python3 -c 'import sys; sys.stdout.write("\n" * (int(sys.argv[1]) - 18) + "{\"job\":\"snapshot\"}")' "$1"
+    python3 -c 'import sys
+init, size = sys.argv[1], int(sys.argv[2])
+sys.stdout.write(init + "\n" * (size - len(init) - 18) + "{\"job\":\"snapshot\"}")' "$init" "$1"
 }
 long_script "$most" >script
-run script input.d
-input "a script of $most bytes" 0 "$(printf '%s\n' "$none" | sed "s/^1 /$((most - 17)) /; s/^mark 1 1 /mark 1 $((most - 17)) /")"
+last=$((most - ${#init} - 17))
+run script feeds.d
+expect "a script of $most bytes" 0 "$made
+$(printf '%s\n' "$none" | sed "s/^2 /$last /; s/^mark 1 2 /mark 1 $last /")" nothing_at feeds.d/x
 long_script "$((most + 1))" >script
 run script input.d
 input "a script of one byte more" 3 'bad line 0 too_long'
@@ -287,16 +351,14 @@ unmount() {
 
 if can_mount ro; then
     run worked disk
-    expect "a folder of a disk that is read-only" 1 - look failed worked out disk
-    expect "it gets no file" 1 - no_file_below disk
+    expect "a folder of a disk that is read-only" 4 '' no_file_below disk
     run worked disk/new
-    expect "a new folder on a disk that is read-only" 1 - look failed worked out disk/new
-    expect "it isn't made" 1 - nothing_at disk/new
+    expect "a new folder on a disk that is read-only" 4 '' nothing_at disk/new
     unmount
 elif [ "$(id -u)" -ne 0 ]; then
     mkdir -m 555 shut.d
     run worked shut.d
-    expect "a folder that may not be written" 1 - look failed worked out shut.d
+    expect "a folder that may not be written" 4 '' no_file_below shut.d
 else
     skip "a folder that can't be written" "root may write each folder and can't mount here"
 fi
@@ -318,22 +380,26 @@ look script 9 40 300 >many
 if can_mount size=256k; then
     run many disk/table
     expect "a disk that gets full" 1 - look failed many out disk/table
-    cp "disk/table/$log" before
+    sums disk/table >before
     run many disk/table
-    expect "a disk that got full, again" 9 'table exists' same_files "disk/table/$log" before
+    sums disk/table >after
+    expect "a disk that got full, again" 9 'table exists' same_files before after
     unmount
 else
     skip "a disk that gets full" "no right to mount"
 fi
 
 # The limit of a file's size stands in for a full disk where none can be mounted. The signal that comes with it is
-# ignored, so that the write fails.
-status=0
-(
-    trap '' XFSZ
-    ulimit -f 100
-    "$program" limit.d run 1 <many >out 2>err
-) || status=$?
+# ignored, so that the write fails. The text goes through a pipe, which has no such limit.
+{
+    (
+        trap '' XFSZ
+        ulimit -f 100
+        exec "$program" limit.d run 1 <many 2>err
+    )
+    echo $? >limit.status
+} | cat >out
+status=$(cat limit.status)
 expect "a file that may not grow" 1 - look failed many out limit.d
 
 # --- Want of memory: the limit leaves the program enough to start, and is below the size of the script.
@@ -349,6 +415,10 @@ if (ulimit -v 24000) 2>/dev/null; then
 else
     skip "want of memory" "this shell can't limit it"
 fi
+python3 "$top/bench/upserts.py" 5 1000 >big
+status=0
+look scarce "$program" big 4000 400 >out || status=$?
+expect "from too little memory to enough" 0 - cat out
 
 # --- A kill at a random moment. It ends the program within a step or between two.
 
@@ -356,5 +426,9 @@ look script 10 60 40 >killed
 status=0
 look kills "$program" killed 200 1 >out || status=$?
 expect "200 kills at random moments" 0 - cat out
+look blocks 8 >killed
+status=0
+look kills "$program" killed 50 1 >out || status=$?
+expect "50 kills in a run of large blocks" 0 - cat out
 
 exit "$failed"
