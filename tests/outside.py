@@ -221,6 +221,7 @@ def check_kills(program, script, count, seed):
     lines = content_of(script)
     assert run_program(program, "kill.d", lines).returncode == 0, "a run that isn't killed"
     whole = time.monotonic() - begin
+    shutil.rmtree("kill.d")
     fronts, total = set(), 0
     for turn in range(int(count)):
         folder = f"kill{turn}.d"
