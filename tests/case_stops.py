@@ -10,10 +10,11 @@ from table_files import (META_FIELDS, avro_bytes, avro_long, avro_row, content_o
 # ---- scripts whose store, source or sink fails
 
 WRITES = INIT + upsert(row("a"), row("b", 2)) + up("a", 3) + SNAPSHOT
-# Two partitions, two groups, and each kind of job: its changing calls are 1, 4, 5 and 4.
-MANY = (init(buckets=2, ordering="v") + up("a") + SNAPSHOT + upsert(row("k1", 2), row("a", 3, "y"), row("k2", 4))
+# Two groups a partition, a write to three partitions, and each kind of job: its changing calls are 1, 4, 6 and 4.
+MANY = (init(buckets=2, ordering="v") + up("a") + SNAPSHOT
+        + upsert(row("k1", 2), row("a", 3, "y"), row("k2", 4), row("a", 5, "z"))
         + gone("a") + SNAPSHOT + snapshot(TIME) + snapshot("20240101000000001"))
-MANY_CALLS = 14
+MANY_CALLS = 15
 
 A = up("a")
 FAULTS = {
