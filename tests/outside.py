@@ -285,14 +285,14 @@ def wanting_within(program, script, kilobytes):
 
 
 def check_scarce(program, script, least, step):
-    """The steps are a hundredth as long where the first run comes to its end."""
+    """The steps are a twentieth as long where the first run comes to its end."""
     kilobytes, step, found = int(least), int(step), []
     while wanting_within(program, script, kilobytes) is None:
         kilobytes += step
     kilobytes -= step
     while found[-1:] != [0]:
         found.append(wanting_within(program, script, kilobytes))
-        kilobytes += max(step // 100, 1)
+        kilobytes += max(step // 20, 1)
     print(f"{found.count(None)} runs ended with status 8, and {sum(map(bool, found))} did without some jobs")
 
 

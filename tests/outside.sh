@@ -415,7 +415,7 @@ if (ulimit -v 24000) 2>/dev/null; then
 else
     skip "want of memory" "this shell can't limit it"
 fi
-python3 "$top/bench/upserts.py" 5 1000 >big
+python3 "$top/bench/upserts.py" 5 3000 >big
 status=0
 look scarce "$program" big 4000 400 >out || status=$?
 expect "from too little memory to enough" 0 - cat out
